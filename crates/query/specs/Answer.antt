@@ -1,0 +1,78 @@
+-- What the query check answers, in document 01's numbers.
+--
+--   badLength, badStep   the two refusal numbers
+--   Answer               admitted, or refused by a number, or refused by a number at a step
+--   said a               the answer that a case of the code's enum stands for
+--   FirstBreaking q k    the length is right, step k breaks a rule and no earlier step does
+--   Kept q               the length is right and every step keeps every rule
+--   Owed q a             a is the answer that document 01 gives q
+--   judgedFrom q n s     the answer of n steps, of which the first has s steps before it: the first that breaks a rule decides
+--   judged q             the answer of a query of right length
+--   answerTo q           the answer to the bytes q
+--
+-- Assumes nothing. NOT here: the rules (Rules); that `answerTo` gives exactly what is owed (Answer.Laws).
+pub mod Laws
+use Prim.Native.Nat.{ℕ, zero, suc, _<_}
+use mathlib.Core.Path.{_≡_}
+use mathlib.Core.Bool.{Bool, true, false}
+use mathlib.Core.List.{List}
+use lib.ListN.{length}
+use Rattle.query.specs.Rules.{wrongLength, steps, keeps}
+use Rattle.query.specs.declared.QueryAnswer.{QueryAnswer}
+use Rattle.query.specs.declared.QueryAnswer.the-variants.{Admitted, BadLength, BadStep}
+
+-- "query of 0 bytes, of a length not a multiple of 8, or over 256 bytes"
+abbrev pub badLength : ℕ
+badLength = 9
+
+-- "a step breaks a rule; comes with the first such step's number"
+abbrev pub badStep : ℕ
+badStep = 10
+
+pub data Answer : Type 0 where
+  admitted : Answer
+  refused : (number : ℕ) → Answer
+  refusedAt : (number step : ℕ) → Answer
+
+unfoldable pub said : QueryAnswer → Answer
+said Admitted = admitted
+said BadLength = refused badLength
+said (BadStep k) = refusedAt badStep k
+
+pub record FirstBreaking (q : List ℕ) (k : ℕ) : Type 0 where
+  pub right : wrongLength (length q) ≡ false
+  pub before : ℕ
+  pub number : k ≡ suc before
+  pub there : before < steps q
+  pub breaks : keeps q before ≡ false
+  pub earlier : (s : ℕ) → s < before → keeps q s ≡ true
+
+pub record Kept (q : List ℕ) : Type 0 where
+  pub right : wrongLength (length q) ≡ false
+  pub each : (s : ℕ) → s < steps q → keeps q s ≡ true
+
+abbrev pub Owed : List ℕ → Answer → Type 0
+Owed q admitted = Kept q
+Owed q (refused n) = (n ≡ badLength) × (wrongLength (length q) ≡ true)
+Owed q (refusedAt n k) = (n ≡ badStep) × FirstBreaking q k
+
+-- the same as a computation
+
+unfoldable pub ifKept : Bool → ℕ → Answer → Answer
+ifKept true k rest = rest
+ifKept false k rest = refusedAt badStep k
+
+unfoldable pub judgedFrom : List ℕ → ℕ → ℕ → Answer
+judgedFrom q zero s = admitted
+judgedFrom q (suc n) s = ifKept (keeps q s) (suc s) (judgedFrom q n (suc s))
+
+unfoldable pub judged : List ℕ → Answer
+judged q = judgedFrom q (steps q) 0
+
+unfoldable pub ifWrong : Bool → Answer → Answer
+ifWrong true rest = refused badLength
+ifWrong false rest = rest
+
+-- "The lowest number that applies is given."
+unfoldable pub answerTo : List ℕ → Answer
+answerTo q = ifWrong (wrongLength (length q)) (judged q)

@@ -1,0 +1,108 @@
+-- The check gives exactly the answer that document 01 owes.
+--
+--   owed-given         the answer given is owed
+--   owed-one           at most one answer is owed
+--   answer-exactly     an answer is given exactly if it is owed; nine-, ten-, admitted-exactly: the same of each case
+--   said-one           two cases of the code's enum that stand for one answer are equal
+--   check-one          two results that the check's promise allows are equal
+--
+-- Assumes nothing.
+use Prim.Native.Nat.{ℕ, zero, suc, _+_, _<_}
+use mathlib.Core.Path.{_≡_, refl, sym, ap, ap₂, subst, _∙_}
+use mathlib.Core.Bool.{Bool, true, false, true≢false}
+use mathlib.Core.List.{List}
+use mathlib.Core.Logic.{_↔_}
+use native.Mathlib.Nat.{not-suc-le-zero}
+use native.Mathlib.Omega.{arith}
+use borrow.Author.Count.{below-more}
+use lib.ListN.{length}
+use Rattle.query.specs.Rules.{wrongLength, steps, keeps}
+use Rattle.query.specs.Answer.{badLength, badStep, Answer, admitted, refused, refusedAt, said, FirstBreaking, Kept, Owed, ifKept, judgedFrom, judged, ifWrong, answerTo}
+use Rattle.query.specs.declared.QueryAnswer.{QueryAnswer}
+use Rattle.query.specs.declared.QueryAnswer.the-variants.{Admitted, BadLength, BadStep}
+
+-- the answer given is owed
+
+module _ (q : List ℕ) (right : wrongLength (length q) ≡ false) where
+  KeptTo : ℕ → Type 0
+  KeptTo s = (t : ℕ) → t < s → keeps q t ≡ true
+
+  one-more : (s : ℕ) → KeptTo s → keeps q s ≡ true → KeptTo (suc s)
+  unfolding KeptTo
+  one-more s h kept t lt = below-more (λ (u : ℕ). keeps q u ≡ true) s h kept t (omega arith)
+
+  owed-step : (s : ℕ) (b : Bool) (rest : Answer) → s < steps q → KeptTo s → keeps q s ≡ b → (keeps q s ≡ true → Owed q rest) → Owed q (ifKept b (suc s) rest)
+  unfolding KeptTo ifKept
+  owed-step s true rest there h is go = go is
+  owed-step s false rest there h is go = (refl, record { right = right; before = s; number = refl; there = there; breaks = is; earlier = h })
+
+  owed-from : (n s : ℕ) → s + n ≡ steps q → KeptTo s → Owed q (judgedFrom q n s)
+  unfolding KeptTo judgedFrom
+  owed-from zero s e h = record { right = right; each = λ t lt. h t (omega arith) }
+  owed-from (suc n) s e h = owed-step s (keeps q s) (judgedFrom q n (suc s)) (omega arith) h refl (λ kept. owed-from n (suc s) (omega arith) (one-more s h kept))
+
+owed-by-length : (q : List ℕ) (b : Bool) → wrongLength (length q) ≡ b → Owed q (ifWrong b (judged q))
+unfolding ifWrong judged
+owed-by-length q true is = (refl, is)
+owed-by-length q false is = owed-from q is (steps q) 0 (omega arith) (unfold KeptTo in λ t lt. absurd (not-suc-le-zero lt))
+
+pub owed-given : (q : List ℕ) → Owed q (answerTo q)
+unfolding answerTo
+owed-given q = owed-by-length q (wrongLength (length q)) refl
+
+-- at most one answer is owed
+
+clash : (b : Bool) → b ≡ true → b ≡ false → ⊥
+clash b p n = true≢false (sym p ∙ n)
+
+-- of two steps that break a rule, the later is not the first
+not-before : (q : List ℕ) {k l : ℕ} (f : FirstBreaking q k) (g : FirstBreaking q l) → f .before < g .before → ⊥
+not-before q f g lt = clash (keeps q (f .before)) (g .earlier (f .before) lt) (f .breaks)
+
+first-one : (q : List ℕ) {k l : ℕ} → FirstBreaking q k → FirstBreaking q l → k ≡ l
+first-one q f g = omega (arith, not-before q f g, not-before q g f)
+
+kept-or-first : (q : List ℕ) {k : ℕ} → Kept q → FirstBreaking q k → ⊥
+kept-or-first q all f = clash (keeps q (f .before)) (all .each (f .before) (f .there)) (f .breaks)
+
+pub owed-one : (q : List ℕ) (a b : Answer) → Owed q a → Owed q b → a ≡ b
+owed-one q admitted admitted o p = refl
+owed-one q admitted (refused n) o p = absurd (clash _ (p .1) (o .right))
+owed-one q admitted (refusedAt n k) o p = absurd (kept-or-first q o (p .1))
+owed-one q (refused n) admitted o p = absurd (clash _ (o .1) (p .right))
+owed-one q (refused n) (refused m) o p = ap refused (o .0 ∙ sym (p .0))
+owed-one q (refused n) (refusedAt m k) o p = absurd (clash _ (o .1) (p .1 .right))
+owed-one q (refusedAt n k) admitted o p = absurd (kept-or-first q p (o .1))
+owed-one q (refusedAt n k) (refused m) o p = absurd (clash _ (p .1) (o .1 .right))
+owed-one q (refusedAt n k) (refusedAt m l) o p = ap₂ refusedAt (o .0 ∙ sym (p .0)) (first-one q (o .1) (p .1))
+
+pub answer-exactly : (q : List ℕ) (a : Answer) → (answerTo q ≡ a) ↔ Owed q a
+answer-exactly q a = (λ given. subst (Owed q) given (owed-given q), λ owed. owed-one q (answerTo q) a (owed-given q) owed)
+
+pub nine-exactly : (q : List ℕ) → (answerTo q ≡ refused badLength) ↔ (wrongLength (length q) ≡ true)
+nine-exactly q = (λ given. answer-exactly q (refused badLength) .0 given .1, λ wrong. answer-exactly q (refused badLength) .1 (refl, wrong))
+
+pub ten-exactly : (q : List ℕ) (k : ℕ) → (answerTo q ≡ refusedAt badStep k) ↔ FirstBreaking q k
+ten-exactly q k = (λ given. answer-exactly q (refusedAt badStep k) .0 given .1, λ first. answer-exactly q (refusedAt badStep k) .1 (refl, first))
+
+pub admitted-exactly : (q : List ℕ) → (answerTo q ≡ admitted) ↔ Kept q
+admitted-exactly q = answer-exactly q admitted
+
+-- one possible result
+
+unsaid : Answer → QueryAnswer
+unsaid admitted = Admitted
+unsaid (refused n) = BadLength
+unsaid (refusedAt n k) = BadStep k
+
+unsaid-said : (a : QueryAnswer) → unsaid (said a) ≡ a
+unfolding said unsaid
+unsaid-said Admitted = refl
+unsaid-said BadLength = refl
+unsaid-said (BadStep k) = refl
+
+pub said-one : (a b : QueryAnswer) → said a ≡ said b → a ≡ b
+said-one a b e = sym (unsaid-said a) ∙ ap unsaid e ∙ unsaid-said b
+
+pub check-one : (q : List ℕ) (a b : QueryAnswer) → said a ≡ answerTo q → said b ≡ answerTo q → a ≡ b
+check-one q a b p r = said-one a b (p ∙ sym r)

@@ -1,0 +1,4 @@
+pub mod Rules
+pub mod Answer
+pub mod Decode
+pub mod Examples

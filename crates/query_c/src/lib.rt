@@ -1,0 +1,18 @@
+// The query check for callers in C and Rust: the answer as one number.
+use query::QueryAnswer;
+ghost use mathlib.Core.Path.{_≡_};
+ghost use Rattle.query.specs.Answer.{answerTo};
+ghost use Rattle.query_c.specs.Packed.{packed};
+
+// 0 where the bytes are a query; else the refusal's number, and 256 times the step's number with it.
+#[no_mangle]
+pub extern "C" fn compassflare_check(bytes: &[u8]) -> u32
+    ensures { λ r. ⌜ r ≡ packed (answerTo (now (bytes .entry))) ⌝ }
+{
+    let answer = query::check(bytes);
+    match answer {
+        QueryAnswer::Admitted => 0,
+        QueryAnswer::BadLength => 9,
+        QueryAnswer::BadStep(k) => 10 + 256 * (k as u32),
+    }
+}
