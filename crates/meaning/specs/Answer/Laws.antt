@@ -4,31 +4,34 @@
 --   Gives q es c a         document 01's rule: a is the lowest refusal that applies or, where none does, what the call yields
 --   answer-gives           the answer is given by the rule;  gives-unique: and only that one
 --   refused-same           a refused call leaves the accepted events as they were;  finish-same: so does finish
+--   taken-added            a taken event is added to them
 --   accepted-stream        the accepted events are a well-formed stream
+--   call-listed            what a call hands out is what it newly lists: a node is "handed out by the event that makes this true"
 --   handed-listed          what any calls hand out, put together, is the list for the events accepted
 --
 -- Assumes nothing, of the query neither.
-use Prim.Native.Nat.{ℕ, zero, suc, _≤_, _<_}
+use Prim.Native.Nat.{ℕ, suc, _≤_}
 use native.Mathlib.Omega.{arith}
 use mathlib.Core.Logic.{_⊎_, inl, inr}
 use mathlib.Core.Path.{_≡_, refl, sym, ap, _∙_, subst}
-use mathlib.Core.Bool.{Bool, true, false, not, _&&_, _||_}
+use mathlib.Core.Bool.{Bool, true, false, not}
 use mathlib.Core.List.{List, [], _∷_, _++_, append-nil, append-assoc, List·Memᴰ, List·Memᴰ·head, List·Memᴰ·tail, List·Memᴰ·cases-cons, List·Memᴰ·not-nil}
 use mathlib.Core.Option.{Option, none, some}
-use lib.Dec.{T, eqb}
+use lib.Dec.{T}
 use lib.ListN.{length, drop}
 use lib.Seq.{drop-append-seam}
-use Rattle.meaning.specs.Logic.{and-l, and-r, and-i}
+use Rattle.meaning.specs.Logic.{and-i}
 use Rattle.meaning.specs.Name.{isName}
 use Rattle.meaning.specs.Query.{Query}
 use Rattle.meaning.specs.Document.{Doc, blank, finished, endsAt}
-use Rattle.meaning.specs.Stream.{Event, opens, closes, fits, act, run, document, always, Stream}
+use Rattle.meaning.specs.Stream.{Event, opens, closes, fits, run, document, always, Stream}
 use Rattle.meaning.specs.Stream.Laws.{always-append, document-append}
-use Rattle.meaning.specs.Record.{recordLength, byte, nameIn, isRecord, eventIf, eventOf}
+use Rattle.meaning.specs.Record.{eventOf}
+use Rattle.meaning.specs.Record.Laws.{Records, open-record, name-exactly, event-exactly}
 use Rattle.meaning.specs.Selection.{marksRow, marks, selections}
 use Rattle.meaning.specs.Standing.{standingsOf, standings, listedFrom, listed}
 use Rattle.meaning.specs.Demands.{list-grows}
-use Rattle.meaning.specs.Answer.{Call, event, finish, Answer, refused, taken, ended, Refusal, refusal, isBad, isOpening, closesWrong, actIf, eventRefusals, refusals, lowestOr, lowest, yield, answerIf, answer, eventsOf, callEvents, afterIf, after, answers, accepted, handedBy, handedOut}
+use Rattle.meaning.specs.Answer.{Call, event, finish, Answer, refused, taken, Refusal, refusal, isBad, closesWrong, actIf, eventRefusals, refusals, lowestOr, lowest, yield, answerIf, answer, eventsOf, callEvents, afterIf, after, answers, accepted, handedBy, handedOut}
 
 abbrev pub Applies : Query → List Event → Call → ℕ → Type 0
 Applies q es c r = List·Memᴰ (refusal r true) (refusals q (document es) c)
@@ -106,7 +109,7 @@ gives-unique q es c (yields f) (refuses {r} m g) = absurd (f r m)
 gives-unique q es c (yields f) (yields g) = refl
 
 -- a refused call changes nothing
-never-refuses : (q : Query) (d : Doc) (c : Call) (r : ℕ) → yield q d c ≡ refused r → ⊥
+pub never-refuses : (q : Query) (d : Doc) (c : Call) (r : ℕ) → yield q d c ≡ refused r → ⊥
 unfolding yield
 never-refuses q d (event bs room) r e = let z : _≡_ {A = ℕ} 0 1 = cc in omega arith
 never-refuses q d finish r e = let z : _≡_ {A = ℕ} 0 1 = cc in omega arith
@@ -127,7 +130,14 @@ finish-same q es = go (lowest (refusals q (document es) finish))
     go (some s) = refl
     go none = append-nil es
 
--- a call that is not refused fits the stream
+-- a call that is not refused is added, and fits the stream
+pub none-applies : (q : Query) (es : List Event) (c : Call) → lowest (refusals q (document es) c) ≡ none → (s : ℕ) → Applies q es c s → ⊥
+none-applies q es c e = go e (lowest-outcome (table-rises q (document es) c .1))
+  where
+    go : {o : Option ℕ} → o ≡ none → Outcome (refusals q (document es) c) o → (s : ℕ) → Applies q es c s → ⊥
+    go e (lowest-is m f) = let z : _≡_ {A = ℕ} 0 1 = cc in absurd (omega arith)
+    go e (none-is f) = f
+
 record Passed (r : Refusal) (rs : List Refusal) : Type 0 where
   clear : T (not (r .applies))
   others : lowest rs ≡ none
@@ -141,16 +151,10 @@ passed r rs e = go (r .applies) refl e
     go false a e = record { clear = subst (λ b. T (not b)) (sym a) tt; others = e }
 
 event-named : (bs : List ℕ) (n : ℕ) → eventOf bs ≡ some (opens n) → T (isName n)
-unfolding eventOf eventIf
-event-named bs n e = go (isRecord bs) (eqb (byte bs 0) 1) refl e
+event-named bs n e = go (event-exactly bs (opens n) .0 e)
   where
-    named : T (isRecord bs) → T (isName (nameIn bs))
-    named t = unfold isRecord in and-l (isName (nameIn bs)) _ (and-r (eqb (byte bs 1) 0) _ (and-r (eqb (byte bs 0) 1 || eqb (byte bs 0) 2) _ (and-r (eqb (length bs) recordLength) _ t)))
-
-    go : (b c : Bool) → isRecord bs ≡ b → eventIf b c (nameIn bs) ≡ some (opens n) → T (isName n)
-    go true true r e = let z : nameIn bs ≡ n = cc in subst (λ m. T (isName m)) z (named (subst T (sym r) tt))
-    go true false r e = let z : _≡_ {A = ℕ} 0 1 = cc in absurd (omega arith)
-    go false c r e = let z : _≡_ {A = ℕ} 0 1 = cc in absurd (omega arith)
+    go : {bs : List ℕ} {n : ℕ} → Records bs (opens n) → T (isName n)
+    go (open-record k) = name-exactly _ .1 k
 
 not-not : (b : Bool) → T (not (not b)) → T b
 not-not true t = tt
@@ -168,6 +172,26 @@ unrefused-fits q d bs room e is o =
     go : (e : Event) → eventOf bs ≡ some e → T (not (finished d)) → T (not (closesWrong (some e) d)) → T (fits e d)
     go (opens n) is f w = unfold fits in and-i (isName n) _ (event-named bs n is) f
     go (closes n) is f w = unfold fits closesWrong in not-not (endsAt n d) w
+
+not-bad : (o : Option Event) → T (not (isBad o)) → (e : Event) × (o ≡ some e)
+unfolding isBad
+not-bad none t = absurd t
+not-bad (some e) t = (e, refl)
+
+pub taken-added :
+    (q : Query) (es : List Event) (bs : List ℕ) (room : ℕ) (ns : List ℕ) → answer q es (event bs room) ≡ taken ns →
+    (e : Event) × (eventOf bs ≡ some e) × (after q es (event bs room) ≡ es ++ (e ∷ []))
+unfolding answer answerIf after afterIf callEvents
+taken-added q es bs room ns a = go (lowest (refusals q (document es) (event bs room))) refl a
+  where
+    good : lowest (refusals q (document es) (event bs room)) ≡ none → (e : Event) × (eventOf bs ≡ some e)
+    good n = unfold refusals eventRefusals in not-bad (eventOf bs) (passed _ _ (passed _ _ n .others) .clear)
+
+    go :
+        (o : Option ℕ) → lowest (refusals q (document es) (event bs room)) ≡ o → answerIf o (yield q (document es) (event bs room)) ≡ taken ns →
+        (e : Event) × (eventOf bs ≡ some e) × (afterIf o es (eventsOf (eventOf bs)) ≡ es ++ (e ∷ []))
+    go (some r) n a = let z : _≡_ {A = ℕ} 0 1 = cc in absurd (omega arith)
+    go none n a = let w = good n in (w .0, w .1, unfold eventsOf in ap (λ x. es ++ eventsOf x) (w .1))
 
 stream-call : (q : Query) (es : List Event) (c : Call) → Stream es → lowest (refusals q (document es) c) ≡ none → Stream (es ++ callEvents c)
 unfolding callEvents
@@ -197,7 +221,7 @@ accepted-stream q es (c ∷ cs) s = accepted-stream q (after q es c) cs (after-s
 new-part : (xs ys more : List ℕ) → ys ≡ xs ++ more → xs ++ drop (length xs) ys ≡ ys
 new-part xs ys more e = rw e (ap (xs ++_) (drop-append-seam xs more))
 
-act-document : (es : List Event) (x : Option Event) → actIf x (document es) ≡ document (es ++ eventsOf x)
+pub act-document : (es : List Event) (x : Option Event) → actIf x (document es) ≡ document (es ++ eventsOf x)
 unfolding actIf eventsOf run
 act-document es none = ap document (sym (append-nil es))
 act-document es (some e) = sym (document-append es (e ∷ []))
@@ -210,7 +234,7 @@ act-listed q es x =
     ap (λ d. listed q (document es) ++ drop (length (listed q (document es))) (listed q d)) (act-document es x)
     ∙ new-part (listed q (document es)) (listed q (document (es ++ eventsOf x))) (m .0) (m .1)
 
-call-listed : (q : Query) (es : List Event) (c : Call) → listed q (document es) ++ handedBy (answer q es c) ≡ listed q (document (after q es c))
+pub call-listed : (q : Query) (es : List Event) (c : Call) → listed q (document es) ++ handedBy (answer q es c) ≡ listed q (document (after q es c))
 unfolding answer after answerIf afterIf handedBy
 call-listed q es c = go (lowest (refusals q (document es) c))
   where

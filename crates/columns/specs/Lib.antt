@@ -1,0 +1,13 @@
+pub mod Stages
+pub mod Lists
+pub mod Leaves
+pub mod Rise
+pub mod Push
+pub mod Front
+pub mod Slots
+pub mod Move
+pub mod Hand
+pub mod Sessions
+pub mod Open
+pub mod Close
+pub mod Right

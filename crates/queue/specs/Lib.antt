@@ -1,0 +1,4 @@
+pub mod Loops
+pub mod LoopsLaws
+pub mod Queue
+pub mod QueueLaws

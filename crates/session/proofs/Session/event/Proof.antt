@@ -1,0 +1,68 @@
+use Rattle.session.specs.Event.{onEvent, event}
+use Rattle.choice.specs.Pick.{pick-yes, pick-no}
+use borrow.Author.Tests.{lt-ltb, le-ltb}
+use denote.Ref.{now}
+use mathlib.Core.Path.{_≡_, refl, sym, ap, _∙_}
+use borrow.Author.Needs.{needs}
+use Rattle.session.proofs.Session.event.Statement.{statement}
+use Rattle.session.proofs.Session.event.Tie as tie
+
+returns : tie.Need-returns
+unfolding event
+returns c = pick-yes _ _ _ _ (lt-ltb _ _ (c .if1 .taken)) refl
+
+read-event-requires : tie.Need-read-event-requires
+read-event-requires c κs = search needs
+
+enum-known-event : tie.Need-enum-known-event
+enum-known-event c = search needs
+
+on-open-requires : tie.Need-on-open-requires
+on-open-requires c κs = search needs
+
+enum-known-event-2 : tie.Need-enum-known-event-2
+enum-known-event-2 c = search needs
+
+on-close-requires : tie.Need-on-close-requires
+on-close-requires c κs = search needs
+
+enum-told : tie.Need-enum-told
+enum-told c = search needs
+
+same-length : tie.Need-same-length
+same-length c = search needs
+
+returns-2 : tie.Need-returns-2
+unfolding event onEvent
+returns-2 c = let a = c .before .before .before .before .before .before .before .before .before .before .before .args in
+    pick-no _ _ _ _ (le-ltb _ _ (c .before .before .before .before .before .before .before .before .if1 .left)) (c .before .before .on-open .ensures ∙ ap (λ e. onEvent (a .self) e (a .out .now)) (sym (c .before .before .before .before .before .event .given .1) ∙ c .before .before .before .before .before .before .before .read-event .ensures))
+
+same-length-2 : tie.Need-same-length-2
+same-length-2 c = search needs
+
+returns-3 : tie.Need-returns-3
+unfolding event onEvent
+returns-3 c = let a = c .before .before .before .before .before .before .before .before .before .before .before .args in
+    pick-no _ _ _ _ (le-ltb _ _ (c .before .before .before .before .before .before .before .before .if1 .left)) (c .before .before .on-close .ensures ∙ ap (λ e. onEvent (a .self) e (a .out .now)) (sym (c .before .before .before .before .before .event2 .given .1) ∙ c .before .before .before .before .before .before .before .read-event .ensures))
+
+returns-4 : tie.Need-returns-4
+unfolding event onEvent
+returns-4 c = let a = c .before .before .before .before .before .before .args in
+    pick-no _ _ _ _ (le-ltb _ _ (c .before .before .before .if1 .left)) (ap (λ e. onEvent (a .self) e (a .out .now)) (sym (c .enum-told .given .1) ∙ c .before .before .read-event .ensures))
+
+pub event-spec : {M : Type 1} → statement M
+event-spec =
+    tie.close
+    (tie.spec
+    returns
+    read-event-requires
+    enum-known-event
+    on-open-requires
+    enum-known-event-2
+    on-close-requires
+    enum-told
+    same-length
+    returns-2
+    same-length-2
+    returns-3
+    returns-4)

@@ -1,0 +1,4 @@
+pub mod Loops
+pub mod Frames
+pub mod LoopsLaws
+pub mod FramesLaws
