@@ -1,0 +1,28 @@
+-- `lines::put_end` meets its contract. Assumes nothing.
+use native.Mathlib.Omega.{arith}
+use borrow.Author.Needs.{needs}
+use Rattle.lines.specs.TextLaws.{line-short, put-end}
+use Rattle.lines.specs.PutLaws.{put-counts}
+use Rattle.lines.proofs.put_end.Statement.{statement}
+use Rattle.lines.proofs.put_end.Tie as tie
+
+slice-aggregate-put-word : tie.Need-slice-aggregate-put-word
+slice-aggregate-put-word c = search needs
+
+put-word-requires : tie.Need-put-word-requires
+put-word-requires c κs = search needs
+
+put-line-requires : tie.Need-put-line-requires
+put-line-requires c κs = omega (arith, line-short 19 (c .before .before .before .before .before .before .before .args .n) (omega arith))
+
+same-length : tie.Need-same-length
+same-length c = search needs
+
+returns : tie.Need-returns
+returns c = put-counts (put-end (c .before .before .before .before .before .before .before .before .before .before .args .n) (c .before .before .before .before .before .before .put-word .ensures) (c .before .before .put-line .ensures))
+    (omega (arith, line-short 19 (c .before .before .before .before .before .before .before .before .before .before .args .n) (omega arith)))
+
+pub put-end-spec : {M : Type 1} → statement M
+put-end-spec =
+    tie.close
+    (tie.spec slice-aggregate-put-word put-word-requires put-line-requires same-length returns)

@@ -1,0 +1,52 @@
+-- `lines::put_refused_at` meets its contract. Assumes nothing.
+use native.Mathlib.Omega.{arith}
+use borrow.Author.Needs.{needs}
+use Rattle.lines.specs.TextLaws.{line-short, put-refused-at}
+use Rattle.lines.specs.DecimalLaws.{length-short}
+use Rattle.lines.specs.PutLaws.{put-counts}
+use Rattle.lines.proofs.put_refused_at.Statement.{statement}
+use Rattle.lines.proofs.put_refused_at.Tie as tie
+
+slice-aggregate-put-word : tie.Need-slice-aggregate-put-word
+slice-aggregate-put-word c = search needs
+
+put-word-requires : tie.Need-put-word-requires
+put-word-requires c κs = search needs
+
+wide-requires : tie.Need-wide-requires
+wide-requires c κs = search needs
+
+put-number-requires : tie.Need-put-number-requires
+put-number-requires c κs = omega (arith, length-short 2 (c .before .wide .result) (omega arith))
+
+slice-aggregate-put-word-2 : tie.Need-slice-aggregate-put-word-2
+slice-aggregate-put-word-2 c = search needs
+
+put-word-requires-2 : tie.Need-put-word-requires-2
+put-word-requires-2 c κs = omega (arith, length-short 2 (c .before .before .before .before .before .before .wide .result) (omega arith))
+
+put-line-requires : tie.Need-put-line-requires
+put-line-requires c κs = omega (arith, length-short 2 (c .before .before .before .before .before .before .before .before .before .before .wide .result) (omega arith), line-short 19 (c .before .before .before .before .before .before .before .before .before .before .before .before .before .before .before .before .before .args .e) (omega arith))
+
+same-length : tie.Need-same-length
+same-length c = search needs
+
+returns : tie.Need-returns
+returns c = put-counts
+    (put-refused-at (c .before .before .before .before .before .before .before .before .before .before .before .before .before .wide .result) (c .before .before .before .before .before .before .before .before .before .before .before .before .before .before .before .before .before .before .before .before .args .r) (c .before .before .before .before .before .before .before .before .before .before .before .before .before .before .before .before .before .before .before .before .args .e) (c .before .before .before .before .before .before .before .before .before .before .before .before .before .wide .ensures .0) (c .before .before .before .before .before .before .before .before .before .before .before .before .before .before .before .before .put-word .ensures)
+    (c .before .before .before .before .before .before .before .before .before .before .before .put-number .ensures) (c .before .before .before .before .before .before .put-word2 .ensures) (c .before .before .put-line .ensures))
+    (omega (arith, length-short 2 (c .before .before .before .before .before .before .before .before .before .before .before .before .before .wide .result) (omega arith), line-short 19 (c .before .before .before .before .before .before .before .before .before .before .before .before .before .before .before .before .before .before .before .before .args .e) (omega arith)))
+
+pub put-refused-at-spec : {M : Type 1} → statement M
+put-refused-at-spec =
+    tie.close
+    (tie.spec
+    slice-aggregate-put-word
+    put-word-requires
+    wide-requires
+    put-number-requires
+    slice-aggregate-put-word-2
+    put-word-requires-2
+    put-line-requires
+    same-length
+    returns)

@@ -1,0 +1,55 @@
+-- `pick::query_line` meets its contract. Assumes nothing.
+use borrow.Author.Needs.{needs}
+use Rattle.lines.specs.PutLaws.{put-none}
+use Rattle.pick.specs.ProgramLaws.{query-line-is}
+use Rattle.pick.proofs.query_line.Statement.{statement}
+use Rattle.pick.proofs.query_line.Tie as tie
+
+enum-told : tie.Need-enum-told
+enum-told c = search needs
+
+enum-told-2 : tie.Need-enum-told-2
+enum-told-2 c = search needs
+
+put-refused-requires : tie.Need-put-refused-requires
+put-refused-requires c κs = search needs
+
+enum-known-answer : tie.Need-enum-known-answer
+enum-known-answer c = search needs
+
+cast-put-refused-at : tie.Need-cast-put-refused-at
+cast-put-refused-at c = search needs
+
+put-refused-at-requires : tie.Need-put-refused-at-requires
+put-refused-at-requires c κs = search needs
+
+returns : tie.Need-returns
+returns c = query-line-is (c .enum-told .given .1) (put-none _ 0, search needs)
+
+same-length : tie.Need-same-length
+same-length c = search needs
+
+returns-2 : tie.Need-returns-2
+returns-2 c = query-line-is (c .before .before .before .before .enum-told2 .given .1) (c .before .before .put-refused .ensures)
+
+same-length-2 : tie.Need-same-length-2
+same-length-2 c = search needs
+
+returns-3 : tie.Need-returns-3
+returns-3 c = query-line-is (c .before .before .before .before .before .answer .given .1) (c .before .before .put-refused-at .ensures)
+
+pub query-line-spec : {M : Type 1} → statement M
+query-line-spec =
+    tie.close
+    (tie.spec
+    enum-told
+    enum-told-2
+    put-refused-requires
+    enum-known-answer
+    cast-put-refused-at
+    put-refused-at-requires
+    returns
+    same-length
+    returns-2
+    same-length-2
+    returns-3)

@@ -1,0 +1,242 @@
+// Reads `query.rec` and `events.rec`, writes each node number on a line of its own as it is handed out, and one last line.
+//
+// What comes is worked on block by block: one read, the events that are whole, the lines of what they handed out, and only then the next
+// read. So a pipe is answered as it runs, and no stream needs more room than another.
+ghost use mathlib.Core.Path.{_≡_};
+ghost use Prim.Native.Nat.{_+_, _-_, _*_, _≤_, _<_};
+ghost use lib.ListN.{length, take, drop};
+ghost use Rattle.io.specs.Counts.{Counts};
+ghost use Rattle.lines.specs.Put.{Put};
+ghost use Rattle.lines.specs.Text.{linesOf, nodesIn};
+ghost use Rattle.pick.specs.Program.{queryLine, lastLine, Within, Follows};
+use query::QueryAnswer;
+use session::Finish;
+use blocks::Ran;
+use session::Session;
+
+// How far the stream is worked on.
+struct State {
+    session: Session,
+    // What is read and not taken yet: the bytes of the input from `from` up to `end`.
+    from: usize,
+    end: usize,
+    // How many events are taken.
+    taken: u64,
+    // The refusal at which the program stops, or 0.
+    refusal: u8,
+    // Whether there is more to do.
+    going: bool,
+}
+
+// What the events of a block gave, and how many bytes of text.
+struct Block {
+    ran: Ran,
+    length: usize,
+}
+
+// The lines of what the events hand out.
+fn work(session: Session, events: &[u8], out: &mut [u8], text: &mut [u8]) -> Block
+    requires { ⌜ 11 * length (now out) ≤ 4 * length (now text) ⌝ }
+    ensures { λ r. ⌜ Put (now (text .entry)) 0 (linesOf (nodesIn (r .ran .listed) (now (out .exit)))) (now (text .exit)) (r .length) ⌝ }
+    ensures { λ r. ⌜ Counts (r .length) (now (text .exit)) ⌝ }
+    ensures { λ r. ⌜ 8 * r .ran .taken ≤ length (now (events .entry)) ⌝ }
+{
+    let ran = blocks::run(session, events, out);
+    let length = lines::put_lines(&*out, ran.listed, text);
+    Block { ran, length }
+}
+
+// Moves the `left` bytes from `from` on to the start.
+fn move_down(input: &mut [u8], from: usize, left: usize)
+    requires { ⌜ from + left ≤ length (now input) ⌝ }
+    ensures { λ _. ⌜ Put (now (input .entry)) 0 (take left (drop from (now (input .entry)))) (now (input .exit)) left ⌝ }
+{
+    let mut i: usize = 0;
+    while i < left {
+        let byte = input[from + i];
+        input[i] = byte;
+        i += 1;
+    }
+}
+
+// "Refusal 9 is written `refused 9`"; "for 10 the step number".
+fn query_line(answer: QueryAnswer, text: &mut [u8]) -> usize
+    requires { ⌜ 64 ≤ length (now text) ⌝ }
+    ensures { λ r. ⌜ Put (now (text .entry)) 0 (queryLine answer) (now (text .exit)) r ⌝ }
+    ensures { λ r. ⌜ Counts r (now (text .exit)) ⌝ }
+{
+    match answer {
+        QueryAnswer::Admitted => 0,
+        QueryAnswer::BadLength => lines::put_refused(9, text),
+        QueryAnswer::BadStep(step) => lines::put_refused_at(10, step as u64, text),
+    }
+}
+
+// "E is the number of the refused event, counted from 1; for refusal 8 the number of accepted events"
+fn last_line(finish: Finish, taken: u64, refusal: u8, text: &mut [u8]) -> usize
+    requires { ⌜ (64 ≤ length (now text)) × (taken < 18446744073709551615) ⌝ }
+    ensures { λ r. ⌜ Put (now (text .entry)) 0 (lastLine finish taken refusal) (now (text .exit)) r ⌝ }
+    ensures { λ r. ⌜ Counts r (now (text .exit)) ⌝ }
+{
+    if 0 < refusal {
+        return lines::put_refused_at(refusal, taken + 1, text);
+    }
+    match finish {
+        Finish::Refused(r) => lines::put_refused_at(r, taken, text),
+        Finish::Ended(_, handed) => lines::put_end(handed as u64, text),
+    }
+}
+
+// "Leftover bytes under 8 are a bad record."
+fn leftover(left: usize) -> u8 {
+    if left == 0 {
+        return 0;
+    }
+    2
+}
+
+// Reads once, behind what is left over.
+fn read_more(fd: i32, state: State, input: &mut [u8]) -> State
+    requires { ⌜ Within state (length (now input)) ⌝ }
+    ensures { λ r. ⌜ Follows state r (length (now (input .entry))) ⌝ }
+{
+    let from = state.from;
+    let left = state.end - from;
+    move_down(input, from, left);
+    let got = libc::read(fd, &mut input[left..]);
+    let more = io::count(got, &input[left..]);
+    let session = state.session;
+    let taken = state.taken;
+    if more == 0 {
+        let refusal = leftover(left);
+        return State {
+            session,
+            from: 0,
+            end: left,
+            taken,
+            refusal,
+            going: false,
+        };
+    }
+    State {
+        session,
+        from: 0,
+        end: left + more,
+        taken,
+        refusal: 0,
+        going: true,
+    }
+}
+
+// Works on what is read, and writes the lines.
+fn work_block(state: State, input: &[u8], out: &mut [u8], text: &mut [u8]) -> State
+    requires { ⌜ Within state (length (now input)) × (11 * length (now out) ≤ 4 * length (now text)) ⌝ }
+    requires { ⌜ (length (now input) ≤ 65536) × (state .taken ≤ 9007199254740992) ⌝ }
+    ensures { λ r. ⌜ Follows state r (length (now (input .entry))) ⌝ }
+{
+    let from = state.from;
+    let end = state.end;
+    let session = state.session;
+    let block = work(session, &input[from..end], out, text);
+    let length = block.length;
+    let written = io::write_all(libc::STDOUT_FILENO, &text[..length]);
+    let ran = block.ran;
+    let next = ran.session;
+    let count = ran.taken;
+    let refusal = ran.refusal;
+    let taken = state.taken + count as u64;
+    if 0 < refusal {
+        return State {
+            session: next,
+            from: end,
+            end,
+            taken,
+            refusal,
+            going: false,
+        };
+    }
+    State {
+        session: next,
+        from: from + 8 * count,
+        end,
+        taken,
+        refusal: 0,
+        going: written,
+    }
+}
+
+// Works on what is read where a whole record is there, else reads once.
+fn turn(fd: i32, state: State, input: &mut [u8], out: &mut [u8], text: &mut [u8]) -> State
+    requires { ⌜ Within state (length (now input)) × (11 * length (now out) ≤ 4 * length (now text)) ⌝ }
+    requires { ⌜ (length (now input) ≤ 65536) × (state .taken ≤ 9007199254740992) ⌝ }
+    ensures { λ r. ⌜ Follows state r (length (now (input .entry))) ⌝ }
+{
+    let left = state.end - state.from;
+    if 8 <= left {
+        return work_block(state, &*input, out, text);
+    }
+    read_more(fd, state, input)
+}
+
+// A proved loop has to end, and nothing says that a file does. So the loop counts its turns down. No stream uses them up: each turn takes an
+// event or reads a byte, and at most 33,554,430 events are taken.
+fn work_all(fd: i32, session: Session, input: &mut [u8], out: &mut [u8], text: &mut [u8]) -> State
+    requires { ⌜ (length (now input) ≤ 65536) × (11 * length (now out) ≤ 4 * length (now text)) ⌝ }
+    ensures { λ r. ⌜ r .taken ≤ 9007199254740992 ⌝ }
+{
+    let mut state = State {
+        session,
+        from: 0,
+        end: 0,
+        taken: 0,
+        refusal: 0,
+        going: true,
+    };
+    let mut turns: u64 = 1099511627776;
+    while 0 < turns && state.going {
+        state = turn(fd, state, input, out, text);
+        turns -= 1;
+    }
+    state
+}
+
+// "a file that can't be opened counts as empty": every read of it fails.
+fn answer_events(session: Session, text: &mut [u8]) -> usize
+    requires { ⌜ 90112 ≤ length (now text) ⌝ }
+    ensures { λ r. ⌜ Counts r (now (text .exit)) ⌝ }
+{
+    let mut input = [0u8; 65536];
+    let mut out = [0u8; 32768];
+    let fd = os::open_read(b"events.rec");
+    let state = work_all(fd, session, &mut input, &mut out, text);
+    libc::close(fd);
+    let end = state.session;
+    let finish = end.finish();
+    last_line(finish, state.taken, state.refusal, text)
+}
+
+fn read_query(query: &mut [u8]) -> usize
+    ensures { λ r. ⌜ Counts r (now (query .exit)) ⌝ }
+{
+    let fd = os::open_read(b"query.rec");
+    let n = io::read_full(fd, query);
+    libc::close(fd);
+    n
+}
+
+fn main() {
+    // one record more than a query may have
+    let mut query = [0u8; 264];
+    let mut text = [0u8; 90112];
+    let n = read_query(&mut query);
+    let begun = session::begin(&query[..n]);
+    let answer = begun.answer;
+    let refused = query_line(answer, &mut text);
+    if 0 < refused {
+        io::write_all(libc::STDOUT_FILENO, &text[..refused]);
+        return;
+    }
+    let session = begun.session;
+    let length = answer_events(session, &mut text);
+    io::write_all(libc::STDOUT_FILENO, &text[..length]);
+}

@@ -1,0 +1,152 @@
+// Offers each event of `events.rec` to a session by itself, also after a refusal, and writes a line for each: how it was answered, how many nodes
+// are held, and which were handed out.
+ghost use Rattle.io.specs.Counts.{Counts};
+use query::QueryAnswer;
+use session::Answer;
+use session::Finish;
+use session::Session;
+use session::Step;
+
+fn say(word: &[u8]) {
+    io::write_all(libc::STDOUT_FILENO, word);
+}
+
+fn say_number(n: u64) {
+    io::print_decimal(libc::STDOUT_FILENO, n);
+}
+
+fn read_query(query: &mut [u8]) -> usize
+    ensures { λ r. ⌜ Counts r (now (query .exit)) ⌝ }
+{
+    let fd = os::open_read(b"query.rec");
+    let n = io::read_full(fd, query);
+    libc::close(fd);
+    n
+}
+
+fn say_held(session: Session) {
+    let counts = session.counts;
+    say(b", held ");
+    say_number(counts.count as u64);
+}
+
+fn say_nodes(records: &[u8], count: u32) {
+    if 0 < count {
+        say(b", listed");
+    }
+    let mut i: u32 = 0;
+    while i < count {
+        let at = i as usize;
+        if 4 * at + 4 <= records.len() {
+            say(b" ");
+            say_number(lines::node_at(records, at));
+        }
+        i += 1;
+    }
+}
+
+fn say_step(number: u64, step: Step, out: &[u8]) {
+    let answer = step.answer;
+    let session = step.session;
+    say_number(number);
+    match answer {
+        Answer::Refused(r) => {
+            say(b" refused ");
+            say_number(r as u64);
+            say_held(session);
+        }
+        Answer::Taken(n) => {
+            say(b" taken");
+            say_held(session);
+            say_nodes(out, n);
+        }
+    }
+    say(b"\n");
+}
+
+fn say_finish(finish: Finish) {
+    match finish {
+        Finish::Refused(r) => {
+            say(b"finish refused ");
+            say_number(r as u64);
+        }
+        Finish::Ended(opened, handed) => {
+            say(b"finish opened ");
+            say_number(opened as u64);
+            say(b" listed ");
+            say_number(handed as u64);
+        }
+    }
+    say(b"\n");
+}
+
+// A session, and whether there was another event for it.
+struct Offered {
+    session: Session,
+    going: bool,
+}
+
+// "Leftover bytes under 8 are a bad record": they are offered as they are.
+fn offer_next(fd: i32, number: u64, session: Session, out: &mut [u8]) -> Offered {
+    let mut record = [0u8; 8];
+    let n = io::read_full(fd, &mut record);
+    if n == 0 {
+        return Offered {
+            session,
+            going: false,
+        };
+    }
+    let step = session.event(&record[..n], out);
+    say_step(number, step, &*out);
+    let next = step.session;
+    Offered {
+        session: next,
+        going: true,
+    }
+}
+
+// Nothing says that a file ends. So the loop counts the events up to a number that no file has.
+fn offer_all(fd: i32, session: Session, out: &mut [u8]) -> Session {
+    let mut offered = Offered {
+        session,
+        going: true,
+    };
+    let mut number: u64 = 1;
+    while offered.going && number < u64::MAX {
+        let last = offered.session;
+        offered = offer_next(fd, number, last, out);
+        number += 1;
+    }
+    offered.session
+}
+
+fn say_query(answer: QueryAnswer) -> bool {
+    match answer {
+        QueryAnswer::Admitted => true,
+        QueryAnswer::BadLength => {
+            say(b"refused 9\n");
+            false
+        }
+        QueryAnswer::BadStep(step) => {
+            say(b"refused 10 at ");
+            say_number(step as u64);
+            say(b"\n");
+            false
+        }
+    }
+}
+
+fn main() {
+    let mut query = [0u8; 264];
+    let mut out = [0u8; 516];
+    let n = read_query(&mut query);
+    let begun = session::begin(&query[..n]);
+    let answer = begun.answer;
+    if say_query(answer) {
+        let fd = os::open_read(b"events.rec");
+        let session = begun.session;
+        let last = offer_all(fd, session, &mut out);
+        libc::close(fd);
+        say_finish(last.finish());
+    }
+}
