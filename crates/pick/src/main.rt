@@ -3,15 +3,16 @@
 // What comes is worked on block by block: one read, the events that are whole, the lines of what they handed out, and only then the next
 // read. So a pipe is answered as it runs, and no stream needs more room than another.
 ghost use mathlib.Core.Path.{_≡_};
-ghost use Prim.Native.Nat.{_+_, _-_, _*_, _≤_, _<_};
+ghost use Prim.Native.Nat.{_+_, _-_, _*_, _/_, _≤_, _<_};
 ghost use lib.ListN.{length, take, drop};
+ghost use Rattle.blocks.specs.Fed.{fed};
 ghost use Rattle.io.specs.Counts.{Counts};
 ghost use Rattle.lines.specs.Put.{Put};
 ghost use Rattle.lines.specs.Text.{linesOf, nodesIn};
 ghost use Rattle.pick.specs.Program.{queryLine, lastLine, Within, Follows};
+use blocks::Ran;
 use query::QueryAnswer;
 use session::Finish;
-use blocks::Ran;
 use session::Session;
 
 // How far the stream is worked on.
@@ -34,12 +35,13 @@ struct Block {
     length: usize,
 }
 
-// The lines of what the events hand out.
+// Offers the events one after the other, and puts the lines of what they hand out.
 fn work(session: Session, events: &[u8], out: &mut [u8], text: &mut [u8]) -> Block
     requires { ⌜ 11 * length (now out) ≤ 4 * length (now text) ⌝ }
     ensures { λ r. ⌜ Put (now (text .entry)) 0 (linesOf (nodesIn (r .ran .listed) (now (out .exit)))) (now (text .exit)) (r .length) ⌝ }
     ensures { λ r. ⌜ Counts (r .length) (now (text .exit)) ⌝ }
     ensures { λ r. ⌜ 8 * r .ran .taken ≤ length (now (events .entry)) ⌝ }
+    ensures { λ r. ⌜ record { session = r .ran .session; taken = r .ran .taken; listed = r .ran .listed; refusal = r .ran .refusal; out = now (out .exit) } ≡ fed (length (now (events .entry)) / 8) session (now (events .entry)) (now (out .entry)) ⌝ }
 {
     let ran = blocks::run(session, events, out);
     let length = lines::put_lines(&*out, ran.listed, text);

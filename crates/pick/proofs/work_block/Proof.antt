@@ -32,7 +32,7 @@ add-taken c =
     let s = c .before .before .before .before .before .before .before .before .before .before .before .before .before .before .before .before .before .args .state in
     let w = c .before .before .before .before .before .before .before .before .before .before .before .before .before .before .before .before .before .pre .0 .0 in
     let t : 8 * c .before .before .before .before .before .before .before .before .before .work .result .ran .taken ≤ s .end - s .from =
-    le-trans (c .before .before .before .before .before .before .before .before .before .work .ensures .1 .1) (part-short (c .before .before .before .before .before .before .before .before .before .before .before .before .before .before .before .before .before .args .input .now) (s .from) (s .end)) in
+    le-trans (c .before .before .before .before .before .before .before .before .before .work .ensures .1 .1 .0) (part-short (c .before .before .before .before .before .before .before .before .before .before .before .before .before .before .before .before .before .args .input .now) (s .from) (s .end)) in
     omega (arith, t, w .inside, c .before .before .before .before .before .before .before .before .before .before .before .before .before .before .before .before .before .pre .1 .0, c .before .before .before .before .before .before .before .before .before .before .before .before .before .before .before .before .before .pre .1 .1)
 
 same-length : tie.Need-same-length
@@ -45,7 +45,7 @@ returns : tie.Need-returns
 returns c = let s = c .before .before .before .before .before .before .before .before .before .before .before .before .before .before .before .before .before .before .args .state in
     let w = c .before .before .before .before .before .before .before .before .before .before .before .before .before .before .before .before .before .before .pre .0 .0 in
     let t : 8 * c .before .before .before .before .before .before .before .before .before .before .work .result .ran .taken ≤ s .end - s .from =
-    le-trans (c .before .before .before .before .before .before .before .before .before .before .work .ensures .1 .1) (part-short (c .before .before .before .before .before .before .before .before .before .before .before .before .before .before .before .before .before .before .args .input .now) (s .from) (s .end)) in
+    le-trans (c .before .before .before .before .before .before .before .before .before .before .work .ensures .1 .1 .0) (part-short (c .before .before .before .before .before .before .before .before .before .before .before .before .before .before .before .before .before .before .args .input .now) (s .from) (s .end)) in
     record { within = record { forward = omega arith; inside = omega arith }; counted = omega arith }
 
 mul-t17 : tie.Need-mul-t17
@@ -64,7 +64,7 @@ returns-2 : tie.Need-returns-2
 returns-2 c = let s = c .before .before .before .before .before .before .before .before .before .before .before .before .before .before .before .before .before .before .args .state in
     let w = c .before .before .before .before .before .before .before .before .before .before .before .before .before .before .before .before .before .before .pre .0 .0 in
     let t : 8 * c .before .before .before .before .before .before .before .before .before .before .work .result .ran .taken ≤ s .end - s .from =
-    le-trans (c .before .before .before .before .before .before .before .before .before .before .work .ensures .1 .1) (part-short (c .before .before .before .before .before .before .before .before .before .before .before .before .before .before .before .before .before .before .args .input .now) (s .from) (s .end)) in
+    le-trans (c .before .before .before .before .before .before .before .before .before .before .work .ensures .1 .1 .0) (part-short (c .before .before .before .before .before .before .before .before .before .before .before .before .before .before .before .before .before .before .args .input .now) (s .from) (s .end)) in
     record { within = record { forward = omega arith; inside = omega arith }; counted = omega arith }
 
 pub work-block-spec : {M : Type 1} → statement M

@@ -1,0 +1,26 @@
+//! The independent second program: document 01 read by its sentences.
+//!
+//! It keeps the whole tree and answers by the definition. There are two forms, and they are compared with each other:
+//!
+//! * [`literal`] computes both readings of the whole tree anew after every event. It is slow and easy to believe.
+//! * [`moments`] notes for each node the event at which each of these things becomes true, once for the whole stream.
+//!   It takes streams of 100,000 events and more.
+//!
+//! [`query`] and [`records`] read the bytes, [`tree`] is the document so far with refusals 3 to 6, and [`answers`] holds
+//! what both forms answer and how it is written out.
+
+pub mod answers;
+pub mod literal;
+pub mod moments;
+pub mod query;
+pub mod records;
+pub mod tree;
+
+/// "A session holds at most 64 open elements"
+pub const MOST_OPEN: usize = 64;
+/// "and at most 128 held nodes"
+pub const MOST_HELD: usize = 128;
+/// "an open when 16,777,215 nodes have been opened"
+pub const MOST_NODES: usize = 16_777_215;
+/// "The buffer must have at least 516 bytes"
+pub const LEAST_BUFFER: usize = 516;

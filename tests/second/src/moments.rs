@@ -1,0 +1,183 @@
+//! The same answers for long streams: for each node, the event from which something is so.
+//!
+//! In the sure reading more and more becomes true as nodes are added, and in the open reading less and less as elements
+//! are closed. So for each node one moment, an event's number, says from when on it is certain, and one from when on it
+//! is ruled out. Both follow from the finished tree of all accepted events, by the sentences of document 01 with "from
+//! when" in place of "is": *and* takes the later moment, *some* the earlier one. Held and handed out follow from these.
+//!
+//! A moment is a number of accepted events: 0 is before all of them, NEVER after all.
+
+use crate::answers::{AfterRefusal, Answer, Offered, Run};
+use crate::query::Query;
+use crate::records::{self, Event};
+use crate::tree::Tree;
+use crate::MOST_HELD;
+use std::collections::HashSet;
+
+type Moment = usize;
+const NEVER: Moment = usize::MAX;
+
+/// For each node (node n at place n), the moment from which some node in the axis of `step` below it meets `step`, `meets`
+/// having the moment from which each node does.
+fn some_meets_from(query: &Query, tree: &Tree, step: usize, meets: &[Moment]) -> Vec<Moment> {
+    let mut from = vec![NEVER; tree.opened() + 1];
+    for below in (1..=tree.opened()).filter(|&below| meets[below] != NEVER) {
+        for node in tree.stands_to(query.step(step).axis, below) {
+            from[node] = from[node].min(meets[below]);
+        }
+    }
+    from
+}
+
+/// For each step and node, the moment from which the node passes the step's name test and has all its predicates met, in
+/// the sure reading.
+fn fits_from(query: &Query, tree: &Tree) -> Vec<Vec<Moment>> {
+    let mut fits: Vec<Vec<Moment>> = vec![Vec::new(); query.steps() + 1];
+    for step in (1..=query.steps()).rev() {
+        let mut from: Vec<Moment> = (0..=tree.opened())
+            .map(|n| if n > 0 && query.passes(step, tree.node(n).name) { tree.node(n).opened } else { NEVER })
+            .collect();
+        for predicate in query.predicates(step) {
+            let met = some_meets_from(query, tree, predicate, &fits[predicate]);
+            from.iter_mut().zip(met).for_each(|(from, met)| *from = (*from).max(met));
+        }
+        fits[step] = from;
+    }
+    fits
+}
+
+/// The moments of one node in which it is selected: in the sure reading from `certain` on, in the open one before `ruled_out`.
+#[derive(Clone, Copy, Debug)]
+struct Selected {
+    certain: Moment,
+    ruled_out: Moment,
+}
+
+const NOT_AT_ALL: Selected = Selected { certain: NEVER, ruled_out: 0 };
+
+/// For each node (node n at place n - 1), when it is selected in either reading.
+fn selected(query: &Query, tree: &Tree) -> Vec<Selected> {
+    let fits = fits_from(query, tree);
+    // When each node can be given to the step before, with the steps before that given theirs; nothing before step 1.
+    let mut before: Option<Vec<Selected>> = None;
+    for step in query.main_path() {
+        let axis = query.step(step).axis;
+        let stands = |node: usize| match &before {
+            None if tree.stands_to_document(axis, node) => Selected { certain: 0, ruled_out: NEVER },
+            None => NOT_AT_ALL,
+            Some(given) => tree.stands_to(axis, node).map(|a| given[a]).fold(NOT_AT_ALL, |some, one| Selected {
+                certain: some.certain.min(one.certain),
+                ruled_out: some.ruled_out.max(one.ruled_out),
+            }),
+        };
+        let given = |node: usize| {
+            if node == 0 || !query.passes(step, tree.node(node).name) {
+                return NOT_AT_ALL;
+            }
+            let (from, above) = (fits[step][node], stands(node));
+            // Predicates that are never met are granted until the node is closed.
+            let until = if from == NEVER { tree.node(node).closed.unwrap_or(NEVER) } else { NEVER };
+            Selected { certain: from.max(above.certain), ruled_out: until.min(above.ruled_out) }
+        };
+        before = Some((0..=tree.opened()).map(given).collect());
+    }
+    let mut all = before.expect("step 1 is on the main path");
+    all.remove(0);
+    all
+}
+
+/// What happens to the nodes of a tree, by the events that built it.
+struct Story {
+    /// For each event (event e at place e), the nodes handed out by it.
+    listed: Vec<Vec<usize>>,
+    /// For each event, how many nodes are held after it.
+    held: Vec<usize>,
+}
+
+fn story(query: &Query, tree: &Tree) -> Story {
+    let mut listed = vec![Vec::new(); tree.events + 1];
+    let (mut begin, mut end) = (vec![0; tree.events + 1], vec![0; tree.events + 1]);
+    // The moment from which no node so far is undecided.
+    let mut all_decided = 0;
+    for (node, Selected { certain, ruled_out }) in (1..).zip(selected(query, tree)) {
+        let opened = tree.node(node).opened;
+        let ruled_out = ruled_out.max(opened);
+        all_decided = all_decided.max(certain.min(ruled_out));
+        // "A certain node with no undecided node before it is handed out by the event that makes this true."
+        let handed_out = all_decided.max(certain);
+        if handed_out != NEVER {
+            listed[handed_out].push(node);
+        }
+        // "A node is held if it is not ruled out and it or some earlier node is undecided."
+        let no_longer = ruled_out.min(all_decided.max(opened));
+        begin[opened] += 1;
+        if no_longer != NEVER {
+            end[no_longer] += 1;
+        }
+    }
+    let mut now = 0;
+    let held = begin.iter().zip(&end).map(|(begin, end)| {
+        now = now + begin - end;
+        now
+    });
+    Story { held: held.collect(), listed }
+}
+
+/// The tree of the events that are accepted when those at the places `full` get refusal 7, and each event's refusal.
+fn accepted(events: &[u8], full: &HashSet<usize>, after: AfterRefusal) -> (Tree, Vec<Option<u8>>) {
+    let (mut tree, mut refusals) = (Tree::default(), Vec::new());
+    for (place, record) in records::split(events).enumerate() {
+        let refusal = match records::event(record) {
+            None => Some(2),
+            Some(event) => tree.refusal(event).or_else(|| full.contains(&place).then_some(7)).or_else(|| {
+                tree.take(event);
+                None
+            }),
+        };
+        refusals.push(refusal);
+        if refusal.is_some() && after == AfterRefusal::Stop {
+            break;
+        }
+    }
+    (tree, refusals)
+}
+
+/// The place of the first event accepted so far that is "an open after which more than 128 nodes would be held".
+fn first_full(events: &[u8], refusals: &[Option<u8>], held: &[usize]) -> Option<usize> {
+    let taken = records::split(events).zip(refusals).enumerate().filter(|(_, (_, refusal))| refusal.is_none());
+    let mut full = taken
+        .zip(&held[1..])
+        .filter(|((_, (record, _)), &held)| held > MOST_HELD && matches!(records::event(record), Some(Event::Open(_))));
+    full.next().map(|((place, _), _)| place)
+}
+
+/// All events of a file offered in order.
+pub fn run(query: &Query, events: &[u8], after: AfterRefusal) -> Run {
+    let mut full = HashSet::new();
+    loop {
+        let (tree, refusals) = accepted(events, &full, after);
+        let story = story(query, &tree);
+        // What comes after an event changes nothing at it, so the first such open is refused whatever follows.
+        match first_full(events, &refusals, &story.held) {
+            Some(place) => full.insert(place),
+            None => return told(&tree, &refusals, story),
+        };
+    }
+}
+
+/// The answers, event by event.
+fn told(tree: &Tree, refusals: &[Option<u8>], mut story: Story) -> Run {
+    let all_listed = story.listed.iter().map(Vec::len).sum();
+    let (mut offered, mut event) = (Vec::new(), 0);
+    for refusal in refusals {
+        let answer = match refusal {
+            Some(refusal) => Answer::Refused(*refusal),
+            None => {
+                event += 1;
+                Answer::Taken(std::mem::take(&mut story.listed[event]))
+            }
+        };
+        offered.push(Offered { answer, held: story.held[event] });
+    }
+    Run { offered, finish: if tree.is_finished() { Ok((tree.opened(), all_listed)) } else { Err(8) } }
+}

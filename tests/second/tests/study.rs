@@ -1,0 +1,284 @@
+//! The P and R cases of document 01, for both forms.
+
+use second::answers::{program, trace, AfterRefusal, Answer, Form};
+use second::literal::{Session, Verdict};
+use second::query::Axis::{Child, Descendant};
+use second::query::{write, Axis, Query, Refused, Step};
+use second::records::{record, Event};
+
+const NAMES: [&str; 11] = ["a", "b", "c", "d", "r", "book", "section", "table", "cell", "position", "author"];
+
+fn number(name: &str) -> u16 {
+    match name {
+        "*" => 0,
+        _ => NAMES.iter().position(|n| *n == name).expect("a known name") as u16 + 1,
+    }
+}
+
+fn main_step(axis: Axis, hangs_on: usize, name: &str) -> Step {
+    Step { axis, main: true, hangs_on, name: number(name) }
+}
+
+fn predicate(axis: Axis, hangs_on: usize, name: &str) -> Step {
+    Step { axis, main: false, hangs_on, name: number(name) }
+}
+
+/// The events of a tree written as in document 01: "r(d c)" is r containing d, then c.
+fn events(text: &str) -> Vec<Event> {
+    let (mut events, mut open, mut word) = (Vec::new(), Vec::new(), String::new());
+    for letter in text.chars().chain([' ']) {
+        if letter.is_alphabetic() {
+            word.push(letter);
+            continue;
+        }
+        if !word.is_empty() {
+            let name = number(&std::mem::take(&mut word));
+            events.push(Event::Open(name));
+            match letter {
+                '(' => open.push(name),
+                _ => events.push(Event::Close(name)),
+            }
+        }
+        if letter == ')' {
+            events.push(Event::Close(open.pop().expect("an opening bracket")));
+        }
+    }
+    events
+}
+
+fn bytes(events: &[Event]) -> Vec<u8> {
+    events.iter().flat_map(|e| record(*e)).collect()
+}
+
+/// The nodes handed out and the events that do it, the same for both forms; the stream is accepted.
+fn listed(steps: &[Step], tree: &str) -> Vec<(usize, Vec<usize>)> {
+    let query = Query::read(&write(steps)).expect("an admitted query");
+    let stream = bytes(&events(tree));
+    let [literal, moments] = [Form::Literal, Form::Moments].map(|f| f.run(&query, &stream, AfterRefusal::GoOn));
+    assert_eq!(literal, moments);
+    assert!(literal.finish.is_ok());
+    let nodes = literal.offered.into_iter().map(|o| match o.answer {
+        Answer::Taken(nodes) => nodes,
+        Answer::Refused(refusal) => panic!("refused {refusal}"),
+    });
+    (1..).zip(nodes).filter(|(_, nodes)| !nodes.is_empty()).collect()
+}
+
+/// The verdict on a node after each event from its opening on, with the event's number.
+fn verdicts(steps: &[Step], tree: &str, node: usize) -> Vec<(usize, Verdict)> {
+    let mut session = Session::begin(&write(steps)).expect("an admitted query");
+    let mut all = Vec::new();
+    for (number, event) in (1..).zip(events(tree)) {
+        assert!(matches!(session.event(&record(event), 516), Answer::Taken(_)));
+        all.extend(session.verdicts().get(node - 1).map(|v| (number, *v)));
+    }
+    all
+}
+
+/// The first event after which the node has the verdict.
+fn first(steps: &[Step], tree: &str, node: usize, verdict: Verdict) -> Option<usize> {
+    verdicts(steps, tree, node).into_iter().find(|(_, v)| *v == verdict).map(|(number, _)| number)
+}
+
+/// //section[author]//table[position]//cell
+fn cells() -> Vec<Step> {
+    vec![
+        main_step(Descendant, 0, "section"),
+        predicate(Child, 1, "author"),
+        main_step(Descendant, 1, "table"),
+        predicate(Child, 3, "position"),
+        main_step(Descendant, 3, "cell"),
+    ]
+}
+
+const BOOK: &str = "book(section(section(section(table(table(table(cell)) position))) author))";
+const BOOK_WITHOUT_AUTHOR: &str = "book(section(section(section(table(table(table(cell)) position)))))";
+
+#[test]
+fn p1_cell_is_handed_out_at_event_17_and_only_then() {
+    assert_eq!(events(BOOK).len(), 20);
+    assert_eq!(listed(&cells(), BOOK), [(17, vec![8])]);
+    for form in [Form::Literal, Form::Moments] {
+        assert_eq!(program(form, &write(&cells()), &bytes(&events(BOOK))), "8\nend 1\n");
+    }
+}
+
+#[test]
+fn p2_cell_is_ruled_out_at_event_17() {
+    assert_eq!(events(BOOK_WITHOUT_AUTHOR).len(), 18);
+    assert_eq!(listed(&cells(), BOOK_WITHOUT_AUTHOR), []);
+    assert_eq!(first(&cells(), BOOK_WITHOUT_AUTHOR, 8, Verdict::RuledOut), Some(17));
+}
+
+#[test]
+fn p3_a_node_that_matches_in_two_ways_is_listed_once() {
+    let steps = [main_step(Descendant, 0, "a"), main_step(Descendant, 1, "a")];
+    assert_eq!(listed(&steps, "a(a(a))"), [(2, vec![2]), (3, vec![3])]);
+}
+
+#[test]
+fn p4_two_nodes_that_look_alike_are_both_listed() {
+    let steps = [main_step(Child, 0, "r"), main_step(Child, 1, "d")];
+    assert_eq!(listed(&steps, "r(d d)"), [(2, vec![2]), (4, vec![3])]);
+}
+
+#[test]
+fn p5_a_certain_node_waits_for_an_undecided_earlier_one() {
+    let steps = [main_step(Descendant, 0, "d"), predicate(Child, 1, "c")];
+    assert_eq!(listed(&steps, "r(d(d(c)))"), [(7, vec![3])]);
+    assert_eq!(first(&steps, "r(d(d(c)))", 3, Verdict::Certain), Some(4));
+    assert_eq!(first(&steps, "r(d(d(c)))", 2, Verdict::RuledOut), Some(7));
+}
+
+#[test]
+fn p6_both_go_at_event_7() {
+    let steps = [main_step(Descendant, 0, "d"), predicate(Child, 1, "c")];
+    assert_eq!(listed(&steps, "r(d(d(c) c))"), [(7, vec![2, 3])]);
+}
+
+#[test]
+fn p7_one_node_meets_two_predicates() {
+    let steps =
+        [main_step(Child, 0, "r"), predicate(Child, 1, "*"), predicate(Child, 1, "d"), main_step(Child, 1, "d")];
+    assert_eq!(listed(&steps, "r(d)"), [(2, vec![2])]);
+}
+
+#[test]
+fn p8_d_is_ruled_out_when_a_closes() {
+    let steps =
+        [main_step(Child, 0, "a"), predicate(Descendant, 1, "b"), predicate(Child, 1, "c"), main_step(Child, 1, "d")];
+    assert_eq!(listed(&steps, "a(a(c) c d)"), []);
+    assert_eq!(first(&steps, "a(a(c) c d)", 5, Verdict::RuledOut), Some(10));
+}
+
+#[test]
+fn p9_a_child_of_the_document_is_the_document_element() {
+    assert_eq!(listed(&[main_step(Child, 0, "d")], "r(d)"), []);
+}
+
+#[test]
+fn p10_the_document_element_descends_from_the_document() {
+    assert_eq!(listed(&[main_step(Descendant, 0, "r")], "r(d)"), [(1, vec![1])]);
+}
+
+#[test]
+fn p11_a_fresh_session() {
+    let mut session = Session::begin(&write(&[main_step(Child, 0, "r")])).unwrap();
+    assert_eq!(session.finish(), Err(8));
+    assert_eq!(session.event(&record(Event::Close(number("r"))), 516), Answer::Refused(4));
+}
+
+#[test]
+fn p12_a_refused_close_changes_nothing() {
+    let [r, d] = [number("r"), number("d")];
+    let stream = bytes(&[Event::Open(r), Event::Close(d), Event::Close(r)]);
+    for form in [Form::Literal, Form::Moments] {
+        let text = trace(form, &write(&[main_step(Child, 0, "r")]), &stream);
+        let lines = ["1 taken, held 0, listed 1", "2 refused 4, held 0", "3 taken, held 0", "finish opened 1 listed 1"];
+        assert_eq!(text.lines().collect::<Vec<_>>(), lines);
+    }
+}
+
+/// /child::*[child::c]/child::*
+fn waiting_for_c() -> Vec<Step> {
+    vec![main_step(Child, 0, "*"), predicate(Child, 1, "c"), main_step(Child, 1, "*")]
+}
+
+/// r with this many empty d, then c.
+fn many(d: usize) -> String {
+    format!("r({}c)", "d ".repeat(d))
+}
+
+#[test]
+fn r1_129_nodes_go_at_once() {
+    assert_eq!(listed(&waiting_for_c(), &many(128)), [(258, (2..=130).collect())]);
+}
+
+#[test]
+fn r2_the_129th_held_node_is_refused() {
+    for form in [Form::Literal, Form::Moments] {
+        assert_eq!(program(form, &write(&waiting_for_c()), &bytes(&events(&many(129)))), "refused 7 at 258\n");
+    }
+}
+
+#[test]
+fn r3_limits_of_depth_query_and_buffer() {
+    let r = number("r");
+    let nest = bytes(&[Event::Open(r); 65]);
+    for form in [Form::Literal, Form::Moments] {
+        let query = write(&[main_step(Child, 0, "d")]);
+        assert_eq!(program(form, &query, &nest), "refused 5 at 65\n");
+        assert_eq!(program(form, &query, &nest[..64 * 8]), "refused 8 at 64\n");
+    }
+    let steps = |n: usize| write(&(0..n).map(|s| main_step(Child, s, "r")).collect::<Vec<_>>());
+    assert!(Query::read(&steps(32)).is_ok());
+    assert_eq!(Query::read(&steps(33)), Err(Refused::Length));
+    let mut session = Session::begin(&steps(32)).unwrap();
+    assert_eq!(session.event(&record(Event::Open(r)), 515), Answer::Refused(1));
+    assert_eq!(session.tree().opened(), 0);
+    assert_eq!(session.event(&record(Event::Open(r)), 516), Answer::Taken(vec![]));
+}
+
+#[test]
+fn the_lowest_refusal_is_given() {
+    let r = number("r");
+    let mut session = Session::begin(&write(&[main_step(Child, 0, "d")])).unwrap();
+    assert_eq!(session.event(&[], 0), Answer::Refused(1));
+    for e in [Event::Open(r), Event::Close(r)] {
+        assert_eq!(session.event(&record(e), 516), Answer::Taken(vec![]));
+    }
+    assert_eq!(session.event(&[1, 0, 0, 5, 0, 0, 0], 516), Answer::Refused(2));
+    assert_eq!(session.event(&[1, 0, 0, 0, 0, 0, 0, 0], 516), Answer::Refused(2));
+    assert_eq!(session.event(&record(Event::Open(r)), 516), Answer::Refused(3));
+    assert_eq!(session.event(&record(Event::Close(number("d"))), 516), Answer::Refused(3));
+    assert_eq!(session.finish(), Ok((1, 0)));
+}
+
+#[test]
+fn the_program_judges_the_query_first_and_leftover_bytes_last() {
+    let query = write(&[main_step(Child, 0, "r")]);
+    let stream = bytes(&events("r(d)"));
+    for form in [Form::Literal, Form::Moments] {
+        assert_eq!(program(form, &[], &stream), "refused 9\n");
+        assert_eq!(program(form, &[1; 8], &[]), "refused 10 at 1\n");
+        assert_eq!(program(form, &query, &[]), "refused 8 at 0\n");
+        assert_eq!(program(form, &query, &stream), "1\nend 1\n");
+        assert_eq!(program(form, &query, &[&stream[..], &[1]].concat()), "1\nrefused 2 at 5\n");
+        assert_eq!(program(form, &query, &stream[..30]), "1\nrefused 2 at 4\n");
+        assert_eq!(program(form, &query, &stream[..24]), "1\nrefused 8 at 3\n");
+    }
+}
+
+#[test]
+fn the_query_rules() {
+    let good = write(&[main_step(Child, 0, "r"), predicate(Child, 1, "c"), main_step(Descendant, 1, "*")]);
+    assert!(Query::read(&good).is_ok());
+    // Place, value put there, and the step that is then at fault.
+    let wrong = [
+        (0, 0, 1),
+        (0, 3, 1),
+        (1, 0, 1),
+        (1, 2, 1),
+        (2, 1, 1),
+        (3, 1, 1),
+        (6, 1, 1),
+        (7, 1, 1),
+        (8, 3, 2),
+        (9, 1, 3),
+        (10, 0, 2),
+        (10, 2, 2),
+        (18, 0, 3),
+        (18, 2, 3),
+        (18, 3, 3),
+        (23, 9, 3),
+    ];
+    for (place, value, step) in wrong {
+        let mut bytes = good.clone();
+        bytes[place] = value;
+        assert_eq!(Query::read(&bytes), Err(Refused::Step(step)), "byte {place} = {value}");
+    }
+    let mut late = good.clone();
+    late.extend(write(&[predicate(Descendant, 2, "*"), predicate(Child, 4, "a")]));
+    assert!(Query::read(&late).is_ok());
+    assert_eq!(Query::read(&good[..23]), Err(Refused::Length));
+}
