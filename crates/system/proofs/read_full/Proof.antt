@@ -1,0 +1,16 @@
+use borrow.Author.Needs.{needs}
+use Rattle.system.specs.Marks.Seal.{given}
+use Rattle.system.proofs.read_full.Statement.{statement}
+use Rattle.system.proofs.read_full.Tie as tie
+
+read-full-requires : tie.Need-read-full-requires
+read-full-requires c κs = search needs
+
+same-length : tie.Need-same-length
+same-length c = search needs
+
+returns : tie.Need-returns
+returns c = (given _ _, search needs)
+
+pub read-full-spec : {M : Type 1} → statement M
+read-full-spec = tie.close (tie.spec read-full-requires same-length returns)
