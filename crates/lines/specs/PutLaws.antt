@@ -6,6 +6,7 @@
 --   put-more      one byte more of a word
 --   put-all       the whole word
 --   put-counts    what is put has so many bytes of the text
+--   put-taken     what is put at the start is what the first bytes of the text then are
 --   put-once      there is one text and one end
 --   digit-put     the last digit of a number may be put before the others
 --   digit-last    a number under 10 is put by its digit
@@ -18,7 +19,7 @@ use native.Mathlib.Omega.{arith}
 use mathlib.Core.Path.{_≡_, refl, sym, ap, _∙_}
 use mathlib.Core.List.{List, [], _∷_, _++_}
 use lib.ListN.{length, getD, take, set, length-append}
-use lib.Seq.{sets, set-comm, take-suc, take-all, length-take-le}
+use lib.Seq.{sets, sets-eq, set-comm, take-at, take-suc, take-all, length-take-le}
 use Rattle.io.specs.Counts.{Counts}
 use Rattle.lines.specs.Decimal.{digit, decimal}
 use Rattle.lines.specs.DecimalLaws.{decimal-single, decimal-more, length-more}
@@ -60,6 +61,11 @@ put-all vs i h p = rw (take-all i vs h) at p
 -- what `&text[..r]` asks
 pub put-counts : {l : List ℕ} {at : ℕ} {vs l′ : List ℕ} {r : ℕ} → Put l at vs l′ r → r ≤ length l′ → Put l at vs l′ r × Counts r l′
 put-counts {l′ = l′} {r} p fits = (p, (fits, sym (length-take-le r l′ fits)))
+
+pub put-taken : {l vs l′ : List ℕ} {r : ℕ} → Put l 0 vs l′ r → r ≤ length l → take r l′ ≡ vs
+put-taken {l} {vs} {l′} {r} p fits =
+    let n : r ≡ length vs = omega (arith, p .end) in
+    ap (take r) (p .text ∙ sets-eq vs l 0 (omega arith)) ∙ take-at vs _ r (sym n)
 
 pub put-once : {l : List ℕ} {at : ℕ} {vs x y : List ℕ} {r s : ℕ} → Put l at vs x r → Put l at vs y s → (x ≡ y) × (r ≡ s)
 put-once p q = (p .text ∙ sym (q .text), p .end ∙ sym (q .end))

@@ -1,17 +1,17 @@
 -- The program's lines.
 --
---   linesOf-snoc        one line more at the end
+--   linesOf-append      the lines of some nodes, and then those of others; linesOf-snoc: one line more at the end
 --   length-line         a line is one byte longer than the numeral
 --   line-short          a line has at most 11 bytes for a number under 10 ^ 10, 21 for one under 10 ^ 20
 --   lines-short         so many lines have at most 11 bytes each
 --   put-next            one line more is put
 --   put-end, put-refused, put-refused-at      a last line is put, part by part
 --   recordsOf ns        the list records of ns, end to end
---   nodesIn-recordsOf   nodes that were written as list records are read as the nodes, whatever stands behind them
+--   nodesIn-recordsOf   nodes that were written as list records are read as the nodes, and then those of the records behind them
 --
 -- Assumes nothing.
 use Prim.Native.Nat.{ℕ, zero, suc, _+_, _*_, _/_, _%_, _^_, _≤_, _<_}
-use native.Mathlib.Nat.{div-div-eq-div-mul}
+use native.Mathlib.Nat.{zero-add, suc-add, div-div-eq-div-mul}
 use native.Mathlib.Numerals.{add-one}
 use native.Mathlib.Omega.{arith}
 use mathlib.Core.Path.{_≡_, refl, sym, ap, ap₂, _∙_}
@@ -24,10 +24,14 @@ use Rattle.lines.specs.Put.{Put}
 use Rattle.lines.specs.PutLaws.{put-then}
 use Rattle.lines.specs.Text.{line, linesOf, nodeAt, nodesIn, endWord, refusedWord, atWord, endLine, refusedLine, refusedAtLine}
 
+pub linesOf-append : (ns ms : List ℕ) → linesOf (ns ++ ms) ≡ linesOf ns ++ linesOf ms
+unfolding linesOf
+linesOf-append [] ms = refl
+linesOf-append (n ∷ ns) ms = ap (λ l. line n ++ l) (linesOf-append ns ms) ∙ sym (append-assoc (line n) (linesOf ns) (linesOf ms))
+
 pub linesOf-snoc : (ns : List ℕ) (n : ℕ) → linesOf (ns ++ (n ∷ [])) ≡ linesOf ns ++ line n
 unfolding linesOf
-linesOf-snoc [] n = append-nil (line n)
-linesOf-snoc (m ∷ ns) n = ap (λ l. line m ++ l) (linesOf-snoc ns n) ∙ sym (append-assoc (line m) (linesOf ns) (line n))
+linesOf-snoc ns n = linesOf-append ns (n ∷ []) ∙ ap (λ l. linesOf ns ++ l) (append-nil (line n))
 
 pub length-line : (n : ℕ) → length (line n) ≡ length (decimal n) + 1
 length-line n = length-append (decimal n) (10 ∷ [])
@@ -104,9 +108,10 @@ module _ (a b c d : ℕ) (bs : List ℕ) where
   nodesIn-cons zero = refl
   nodesIn-cons (suc k) = rw (nodesIn-cons k, nodeAt-behind k)
 
-pub nodesIn-recordsOf : (ns rest : List ℕ) → Nodes ns → nodesIn (length ns) (recordsOf ns ++ rest) ≡ ns
-unfolding recordsOf nodesIn
-nodesIn-recordsOf [] rest h = refl
-nodesIn-recordsOf (n ∷ ns) rest h =
-    nodesIn-cons (n / 16777216 % 256) (n / 65536 % 256) (n / 256 % 256) (n % 256) (recordsOf ns ++ rest) (length ns)
-    ∙ ap₂ _∷_ (four-bytes n (h 0)) (nodesIn-recordsOf ns rest (λ i. h (suc i)))
+pub nodesIn-recordsOf : (ns rest : List ℕ) (k : ℕ) → Nodes ns → nodesIn (length ns + k) (recordsOf ns ++ rest) ≡ ns ++ nodesIn k rest
+unfolding recordsOf
+nodesIn-recordsOf [] rest k h = ap (λ m. nodesIn m rest) (zero-add k)
+nodesIn-recordsOf (n ∷ ns) rest k h =
+    ap (λ m. nodesIn m (recordsOf (n ∷ ns) ++ rest)) (suc-add (length ns) k)
+    ∙ nodesIn-cons (n / 16777216 % 256) (n / 65536 % 256) (n / 256 % 256) (n % 256) (recordsOf ns ++ rest) (length ns + k)
+    ∙ ap₂ _∷_ (four-bytes n (h 0)) (nodesIn-recordsOf ns rest k (λ i. h (suc i)))

@@ -1,2 +1,4 @@
+pub mod Offered
+pub mod Line
 pub mod Program
-pub mod ProgramLaws
+pub mod State

@@ -1,42 +1,82 @@
--- What the program writes besides the nodes, and what holds between two turns.
+-- WHAT THE PROGRAM OWES, and what it promises of a run.
 --
---   queryLine a             the line that answers a refused query; nothing for an admitted one
---   finishLine f taken      the last line of a stream of which so many events were taken and none was refused, by what finish answers
---   lastLine f taken r      the last line where event taken + 1 was refused with r; r is 0 where none was
---   Within s n              what is read and not taken lies in the first n bytes of the input
---   Follows s s′ n          the state s′ after a turn on s: Within, and with at most n / 8 events more
+--   lastLineOf q w      the last line for a stream that came to w
+--   textOf q w          all that is written for it: a line for each node listed, and the last line
+--   owed qs es          all that is written for the files `query.rec`, whose bytes are qs, and `events.rec`, whose bytes are es
+--   Output text         the text went to standard output, every byte of it once and in order; or standard output took no more
+--   Ran                 the program was run: the files were read, and what was written is what is owed for the bytes that the reads gave
 --
--- Assumes nothing. NOT here: the lines themselves (crate lines).
-use Prim.Native.Nat.{ℕ, _+_, _*_, _≤_}
-use mathlib.Core.Bool.{cond}
-use mathlib.Core.List.{List, []}
-use lib.Dec.{ltb}
-use Rattle.lines.specs.Text.{endLine, refusedAtLine, refusedLine}
-use Rattle.query.specs.declared.QueryAnswer.{QueryAnswer}
-use Rattle.query.specs.declared.QueryAnswer.the-variants.{Admitted, BadLength, BadStep}
-use Rattle.session.specs.declared.Finish.{Finish}
-use Rattle.session.specs.declared.Finish.the-variants.{Refused, Ended}
-use Rattle.pick.specs.declared.State.{State}
+-- Assumes nothing. NOT here: what a stream of bytes comes to (crate meaning, Offering), the lines' bytes (crate lines, Text), what "given", "handed" and
+-- "delivered" are (crate system, Marks).
+-- pub mod Laws
+use Prim.Native.Nat.{ℕ, _+_}
+use mathlib.Core.Logic.{_⊎_}
+use mathlib.Core.Path.{_≡_}
+use mathlib.Core.Bool.{Bool, true, false}
+use mathlib.Core.List.{List, [], _∷_, _++_}
+use mathlib.Core.Option.{Option, none, some}
+use lib.IntN.{ℤ}
+use lib.ListN.{length}
+use Rattle.choice.specs.Pick.{pick}
+use Rattle.meaning.specs.Query.{Query}
+use Rattle.meaning.specs.Document.{finished}
+use Rattle.meaning.specs.Stream.{Event, document}
+use Rattle.meaning.specs.Standing.{listed}
+use Rattle.meaning.specs.Offering.{Offering, offeringAll}
+use Rattle.query.specs.Answer.{Answer, admitted, refused, refusedAt, answerTo}
+use Rattle.query.specs.Decode.{decode}
+use Rattle.lines.specs.Text.{linesOf, endLine, refusedAtLine, refusedLine}
+use Rattle.system.specs.Marks.{Opened, Given, Handed, Received, Delivered}
 
--- "Refusal 9 is written `refused 9`"; "for 10 the step number"
-abbrev pub queryLine : QueryAnswer → List ℕ
-queryLine Admitted = []
-queryLine BadLength = refusedLine 9
-queryLine (BadStep k) = refusedAtLine 10 k
-
--- "for refusal 8 the number of accepted events"; "`end N` with the number handed out"
-abbrev pub finishLine : Finish → ℕ → List ℕ
-finishLine (Refused r) taken = refusedAtLine r taken
-finishLine (Ended opened handed) taken = endLine handed
+-- "`end N` with the number handed out"; "for refusal 8 the number of accepted events"
+unfoldable pub finishLineOf : Query → List Event → List ℕ
+finishLineOf q es = pick (finished (document es)) (endLine (length (listed q (document es)))) (refusedAtLine 8 (length es))
 
 -- "E is the number of the refused event, counted from 1"
-abbrev pub lastLine : Finish → ℕ → ℕ → List ℕ
-lastLine f taken r = cond (ltb 0 r) (refusedAtLine r (taken + 1)) (finishLine f taken)
+unfoldable pub lastLineBy : Option ℕ → Query → List Event → List ℕ
+lastLineBy (some r) q es = refusedAtLine r (length es + 1)
+lastLineBy none q es = finishLineOf q es
 
-pub record Within (s : State) (n : ℕ) : Type 0 where
-  pub forward : s .from ≤ s .end
-  pub inside : s .end ≤ n
+abbrev pub lastLineOf : Query → Offering → List ℕ
+lastLineOf q w = lastLineBy (w .refusal) q (w .events)
 
-pub record Follows (s s′ : State) (n : ℕ) : Type 0 where
-  pub within : Within s′ n
-  pub counted : 8 * s′ .taken ≤ 8 * s .taken + n
+abbrev pub textOf : Query → Offering → List ℕ
+textOf q w = linesOf (listed q (document (w .events))) ++ lastLineOf q w
+
+-- "The query is judged first"
+unfoldable pub owedBy : Answer → List ℕ → List ℕ → List ℕ
+owedBy admitted qs es = textOf (decode qs) (offeringAll (decode qs) es)
+owedBy (refused n) qs es = refusedLine n
+owedBy (refusedAt n k) qs es = refusedAtLine n k
+
+abbrev pub owed : List ℕ → List ℕ → List ℕ
+owed qs es = owedBy (answerTo qs) qs es
+
+-- bytes that standard output did not take
+pub record Failed : Type 0 where
+  pub bytes : List ℕ
+  pub handed : Handed bytes false
+
+abbrev pub Output : List ℕ → Type 0
+Output text = Delivered text ⊎ Failed
+
+-- "query.rec" and "events.rec"
+abbrev pub queryName : List ℕ
+queryName = 113 ∷ 117 ∷ 101 ∷ 114 ∷ 121 ∷ 46 ∷ 114 ∷ 101 ∷ 99 ∷ []
+
+abbrev pub eventsName : List ℕ
+eventsName = 101 ∷ 118 ∷ 101 ∷ 110 ∷ 116 ∷ 115 ∷ 46 ∷ 114 ∷ 101 ∷ 99 ∷ []
+
+-- the bytes that reads of a file gave, end to end
+pub record Read (name bytes : List ℕ) : Type 0 where
+  pub fd : ℤ
+  pub opened : Opened name fd
+  pub received : Received fd bytes
+
+-- events are read only for an admitted query
+pub record Ran : Type 0 where
+  pub query : List ℕ
+  pub events : List ℕ
+  pub query-read : Read queryName query
+  pub events-read : answerTo query ≡ admitted → Read eventsName events
+  pub output : Output (owed query events)

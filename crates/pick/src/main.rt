@@ -3,13 +3,18 @@
 // What comes is worked on block by block: one read, the events that are whole, the lines of what they handed out, and only then the next
 // read. So a pipe is answered as it runs, and no stream needs more room than another.
 ghost use mathlib.Core.Path.{_≡_};
-ghost use Prim.Native.Nat.{_+_, _-_, _*_, _/_, _≤_, _<_};
+ghost use mathlib.Core.Bool.{Bool};
+ghost use mathlib.Core.List.{List};
+ghost use Prim.Native.Nat.{ℕ, _+_, _*_, _/_, _≤_, _<_};
 ghost use lib.ListN.{length, take, drop};
 ghost use Rattle.blocks.specs.Fed.{fed};
 ghost use Rattle.io.specs.Counts.{Counts};
 ghost use Rattle.lines.specs.Put.{Put};
 ghost use Rattle.lines.specs.Text.{linesOf, nodesIn};
-ghost use Rattle.pick.specs.Program.{queryLine, lastLine, Within, Follows};
+ghost use Rattle.promise.specs.Promise.{Of};
+ghost use Rattle.pick.specs.Program.{Ran};
+ghost use Rattle.pick.specs.Line.{queryLine, lastLine};
+ghost use Rattle.pick.specs.State.{Within, Begun, leftoverOf, goesOn, ReadMore, Worked, Turned, WorkedAll, Answered};
 use blocks::Ran;
 use query::QueryAnswer;
 use session::Finish;
@@ -25,8 +30,10 @@ struct State {
     taken: u64,
     // The refusal at which the program stops, or 0.
     refusal: u8,
-    // Whether there is more to do.
-    going: bool,
+    // Whether a read has given nothing.
+    ended: bool,
+    // Whether all that was handed to standard output was taken.
+    written: bool,
 }
 
 // What the events of a block gave, and how many bytes of text.
@@ -90,7 +97,9 @@ fn last_line(finish: Finish, taken: u64, refusal: u8, text: &mut [u8]) -> usize
 }
 
 // "Leftover bytes under 8 are a bad record."
-fn leftover(left: usize) -> u8 {
+fn leftover(left: usize) -> u8
+    ensures { λ r. ⌜ r ≡ leftoverOf left ⌝ }
+{
     if left == 0 {
         return 0;
     }
@@ -100,15 +109,15 @@ fn leftover(left: usize) -> u8 {
 // Reads once, behind what is left over.
 fn read_more(fd: i32, state: State, input: &mut [u8]) -> State
     requires { ⌜ Within state (length (now input)) ⌝ }
-    ensures { λ r. ⌜ Follows state r (length (now (input .entry))) ⌝ }
+    ensures { λ r. ⌜ ReadMore fd state (now (input .entry)) r (now (input .exit)) ⌝ }
 {
     let from = state.from;
     let left = state.end - from;
     move_down(input, from, left);
-    let got = libc::read(fd, &mut input[left..]);
-    let more = io::count(got, &input[left..]);
+    let more = system::read_at(fd, input, left);
     let session = state.session;
     let taken = state.taken;
+    let written = state.written;
     if more == 0 {
         let refusal = leftover(left);
         return State {
@@ -117,7 +126,8 @@ fn read_more(fd: i32, state: State, input: &mut [u8]) -> State
             end: left,
             taken,
             refusal,
-            going: false,
+            ended: true,
+            written,
         };
     }
     State {
@@ -126,52 +136,42 @@ fn read_more(fd: i32, state: State, input: &mut [u8]) -> State
         end: left + more,
         taken,
         refusal: 0,
-        going: true,
+        ended: false,
+        written,
     }
 }
 
 // Works on what is read, and writes the lines.
 fn work_block(state: State, input: &[u8], out: &mut [u8], text: &mut [u8]) -> State
     requires { ⌜ Within state (length (now input)) × (11 * length (now out) ≤ 4 * length (now text)) ⌝ }
-    requires { ⌜ (length (now input) ≤ 65536) × (state .taken ≤ 9007199254740992) ⌝ }
-    ensures { λ r. ⌜ Follows state r (length (now (input .entry))) ⌝ }
+    requires { ⌜ (length (now input) ≤ 65536) × (state .taken ≤ 33554430) ⌝ }
+    ensures { λ r. ⌜ Worked state (now (input .entry)) (now (out .entry)) r ⌝ }
 {
     let from = state.from;
     let end = state.end;
     let session = state.session;
     let block = work(session, &input[from..end], out, text);
     let length = block.length;
-    let written = io::write_all(libc::STDOUT_FILENO, &text[..length]);
+    let written = system::write(&text[..length]);
     let ran = block.ran;
     let next = ran.session;
     let count = ran.taken;
-    let refusal = ran.refusal;
-    let taken = state.taken + count as u64;
-    if 0 < refusal {
-        return State {
-            session: next,
-            from: end,
-            end,
-            taken,
-            refusal,
-            going: false,
-        };
-    }
     State {
         session: next,
         from: from + 8 * count,
         end,
-        taken,
-        refusal: 0,
-        going: written,
+        taken: state.taken + count as u64,
+        refusal: ran.refusal,
+        ended: false,
+        written,
     }
 }
 
 // Works on what is read where a whole record is there, else reads once.
 fn turn(fd: i32, state: State, input: &mut [u8], out: &mut [u8], text: &mut [u8]) -> State
     requires { ⌜ Within state (length (now input)) × (11 * length (now out) ≤ 4 * length (now text)) ⌝ }
-    requires { ⌜ (length (now input) ≤ 65536) × (state .taken ≤ 9007199254740992) ⌝ }
-    ensures { λ r. ⌜ Follows state r (length (now (input .entry))) ⌝ }
+    requires { ⌜ (length (now input) ≤ 65536) × (state .taken ≤ 33554430) ⌝ }
+    ensures { λ r. ⌜ Turned fd state (now (input .entry)) (now (out .entry)) r (now (input .exit)) ⌝ }
 {
     let left = state.end - state.from;
     if 8 <= left {
@@ -180,11 +180,25 @@ fn turn(fd: i32, state: State, input: &mut [u8], out: &mut [u8], text: &mut [u8]
     read_more(fd, state, input)
 }
 
-// A proved loop has to end, and nothing says that a file does. So the loop counts its turns down. No stream uses them up: each turn takes an
-// event or reads a byte, and at most 33,554,430 events are taken.
+// Whether there is more to do.
+fn goes_on(refusal: u8, ended: bool, written: bool) -> bool
+    ensures { λ r. ⌜ r ≡ goesOn refusal ended written ⌝ }
+{
+    if refusal != 0 {
+        return false;
+    }
+    if ended {
+        return false;
+    }
+    written
+}
+
+// A file need not end, but the loop does: a turn that reads gets a byte or is the last, a turn that works takes an event or is the last, and no
+// more than 33,554,430 events are ever taken.
 fn work_all(fd: i32, session: Session, input: &mut [u8], out: &mut [u8], text: &mut [u8]) -> State
     requires { ⌜ (length (now input) ≤ 65536) × (11 * length (now out) ≤ 4 * length (now text)) ⌝ }
-    ensures { λ r. ⌜ r .taken ≤ 9007199254740992 ⌝ }
+    requires { ⌜ (516 ≤ length (now out)) × Begun session ⌝ }
+    ensures { λ r. ⌜ WorkedAll fd session r ⌝ }
 {
     let mut state = State {
         session,
@@ -192,53 +206,56 @@ fn work_all(fd: i32, session: Session, input: &mut [u8], out: &mut [u8], text: &
         end: 0,
         taken: 0,
         refusal: 0,
-        going: true,
+        ended: false,
+        written: true,
     };
-    let mut turns: u64 = 1099511627776;
-    while 0 < turns && state.going {
+    while goes_on(state.refusal, state.ended, state.written) {
         state = turn(fd, state, input, out, text);
-        turns -= 1;
     }
     state
 }
 
-// "a file that can't be opened counts as empty": every read of it fails.
+// "a file that can't be opened counts as empty": every read of it fails. Where standard output takes no more, no last line is put.
 fn answer_events(session: Session, text: &mut [u8]) -> usize
-    requires { ⌜ 90112 ≤ length (now text) ⌝ }
+    requires { ⌜ (90112 ≤ length (now text)) × Begun session ⌝ }
+    ensures { λ r. ⌜ Answered session (now (text .entry)) (now (text .exit)) r ⌝ }
     ensures { λ r. ⌜ Counts r (now (text .exit)) ⌝ }
 {
     let mut input = [0u8; 65536];
     let mut out = [0u8; 32768];
-    let fd = os::open_read(b"events.rec");
+    let fd = system::open(b"events.rec");
     let state = work_all(fd, session, &mut input, &mut out, text);
-    libc::close(fd);
+    system::close(fd);
+    if !state.written {
+        return 0;
+    }
     let end = state.session;
     let finish = end.finish();
     last_line(finish, state.taken, state.refusal, text)
 }
 
-fn read_query(query: &mut [u8]) -> usize
-    ensures { λ r. ⌜ Counts r (now (query .exit)) ⌝ }
+// The whole program: `main` can have no contract.
+fn answer_files()
+    ensures { λ _. ⌜ Ran ⌝ }
 {
-    let fd = os::open_read(b"query.rec");
-    let n = io::read_full(fd, query);
-    libc::close(fd);
-    n
-}
-
-fn main() {
     // one record more than a query may have
     let mut query = [0u8; 264];
     let mut text = [0u8; 90112];
-    let n = read_query(&mut query);
+    let fd = system::open(b"query.rec");
+    let n = system::read_full(fd, &mut query);
+    system::close(fd);
     let begun = session::begin(&query[..n]);
     let answer = begun.answer;
     let refused = query_line(answer, &mut text);
     if 0 < refused {
-        io::write_all(libc::STDOUT_FILENO, &text[..refused]);
+        system::write(&text[..refused]);
         return;
     }
     let session = begun.session;
     let length = answer_events(session, &mut text);
-    io::write_all(libc::STDOUT_FILENO, &text[..length]);
+    system::write(&text[..length]);
+}
+
+fn main() {
+    answer_files();
 }

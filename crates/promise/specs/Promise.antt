@@ -7,6 +7,7 @@
 --   begin-promised             begin admits exactly as the query check says, and then gives the session after no events
 --   event-promised, finish-promised      what event and finish give on the session after es
 --   begin-of, event-of         the session begin gives, and the one an event gives, is again one that calls reach
+--   event-owed                 an event, by the lowest refusal that applies
 --   event-gives, finish-gives  the promises of event and finish, for every session that calls reach
 --   begin-one, event-one, finish-one     two results that the promise allows are equal
 --
@@ -24,11 +25,11 @@ use Rattle.meaning.specs.Query.{Query, admits}
 use Rattle.meaning.specs.Document.{Doc, blank, count, finished}
 use Rattle.meaning.specs.Standing.{listed, held, ruledOut}
 use Rattle.meaning.specs.Demands.{counts-add-up}
-use Rattle.meaning.specs.Stream.{Event, run, document}
+use Rattle.meaning.specs.Stream.{Event, run, document, always, Stream}
 use Rattle.meaning.specs.Record.{eventOf}
 use Rattle.meaning.specs.Answer as meaning
 use Rattle.meaning.specs.Answer.{Call, eventRefusals, refusals, lowestOr, lowest, actIf, eventsOf, callEvents, yield, answerIf, answer, afterIf, after, accepted, handedBy}
-use Rattle.meaning.specs.Answer.Laws.{act-document}
+use Rattle.meaning.specs.Answer.Laws.{act-document, after-stream}
 use Rattle.meaning.specs.Answer.Bounds.{Bounded, after-bounded, accepted-within}
 use Rattle.query.specs.Answer as checked
 use Rattle.query.specs.Answer.{answerTo}
@@ -77,6 +78,7 @@ promised q es bytes out =
 pub record Of (b : List ℕ) (es : List Event) (s : Session) : Type 0 where
   pub bytes : Bytes b
   pub admitted : answerTo b ≡ checked.admitted
+  pub stream : Stream es
   pub bounds : Bounded (decode b) es
   pub is : s ≡ sessionAfter (decode b) es
 
@@ -163,12 +165,22 @@ module _ {b : List ℕ} {es : List Event} {s : Session} (o : Of b es s) where
   event-gives bytes out =
       ap (λ t. event t bytes out) (o .is) ∙ event-promised (decode b) es bytes out (m .admitted) (m .most) (o .bounds)
 
+  -- the same, by the lowest refusal that applies
+  pub event-owed :
+      (bytes out : List ℕ) →
+      event s bytes out ≡ owed (decode b) (document es) (eventOf bytes) out (lowest (refusals (decode b) (document es) (Call.event bytes (length out))))
+  unfolding sessionAfter refusals
+  event-owed bytes out =
+      ap (λ t. event t bytes out) (o .is)
+      ∙ event-right (decode b) (document es) (within-limits (decode b) (m .admitted) (m .most) es (o .bounds)) out bytes
+
   -- the next session is again one that calls reach
   pub event-of : (bytes out : List ℕ) → Of b (after (decode b) es (Call.event bytes (length out))) (event s bytes out .session)
   event-of bytes out =
       record {
         bytes = o .bytes;
         admitted = o .admitted;
+        stream = after-stream (decode b) es (Call.event bytes (length out)) (o .stream);
         bounds = after-bounded (decode b) es (Call.event bytes (length out)) (o .bounds);
         is = ap (λ (d : Done). d .session) (event-gives bytes out) ∙ (unfold promised in refl);
       }
@@ -177,11 +189,12 @@ module _ {b : List ℕ} {es : List Event} {s : Session} (o : Of b es s) where
   finish-gives = ap finish (o .is) ∙ finish-promised (decode b) es
 
 pub begin-of : (b : List ℕ) → Bytes b → answerTo b ≡ checked.admitted → Of b [] (begun b .session)
-unfolding accepted
+unfolding accepted always
 begin-of b bytes given =
     record {
       bytes = bytes;
       admitted = given;
+      stream = tt;
       bounds = accepted-within (decode b) [];
       is = ap (λ (x : Begun). x .session) (begin-promised b given);
     }

@@ -1,7 +1,7 @@
 -- `pick::last_line` meets its contract. Assumes nothing.
 use native.Mathlib.Omega.{arith}
 use borrow.Author.Needs.{needs}
-use Rattle.pick.specs.ProgramLaws.{finish-line-is, refused-line-is}
+use Rattle.pick.specs.Line.Laws.{finish-line-is, refused-line-is}
 use Rattle.pick.proofs.last_line.Statement.{statement}
 use Rattle.pick.proofs.last_line.Tie as tie
 

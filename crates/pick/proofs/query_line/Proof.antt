@@ -1,7 +1,7 @@
 -- `pick::query_line` meets its contract. Assumes nothing.
 use borrow.Author.Needs.{needs}
 use Rattle.lines.specs.PutLaws.{put-none}
-use Rattle.pick.specs.ProgramLaws.{query-line-is}
+use Rattle.pick.specs.Line.Laws.{query-line-is}
 use Rattle.pick.proofs.query_line.Statement.{statement}
 use Rattle.pick.proofs.query_line.Tie as tie
 

@@ -19,7 +19,7 @@ use Rattle.lines.specs.PutLaws.{put-more}
 use Rattle.lines.specs.Text.{refusedAtLine}
 use Rattle.query.specs.declared.QueryAnswer.{QueryAnswer}
 use Rattle.session.specs.declared.Finish.{Finish}
-use Rattle.pick.specs.Program.{queryLine, finishLine, lastLine}
+use Rattle.pick.specs.Line.{queryLine, finishLine, lastLine}
 
 module _ {l l′ : List ℕ} {n : ℕ} where
   pub query-line-is : {a b : QueryAnswer} → a ≡ b → Put l 0 (queryLine b) l′ n × Counts n l′ → Put l 0 (queryLine a) l′ n × Counts n l′

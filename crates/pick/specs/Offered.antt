@@ -1,0 +1,30 @@
+-- The records of some bytes, offered one after the other to a session, in the words of the meaning.
+--
+--   Offered b es bs s taken refusal nodes      after the query bytes b and the accepted events es the records of bs were offered up to the first refusal or
+--                                              up to some record: `taken` of them were accepted and have listed `nodes`, they have led to the session s, and
+--                                              the next one was refused with the number `refusal`; 0 where none was
+--
+-- Assumes nothing. NOT here: what offering records comes to (crate meaning, Offering), what a block of events is (crate blocks, Fed).
+pub mod Laws
+pub mod Block
+use Prim.Native.Nat.{ℕ, _*_, _≤_, _<_}
+use mathlib.Core.Path.{_≡_}
+use mathlib.Core.List.{List, _++_}
+use mathlib.Core.Option.{none, some}
+use lib.ListN.{length, drop}
+use Rattle.meaning.specs.Stream.{Event, document}
+use Rattle.meaning.specs.Standing.{listed}
+use Rattle.meaning.specs.Offering.{offering}
+use Rattle.query.specs.Decode.{decode}
+use Rattle.session.specs.declared.Session.{Session}
+use Rattle.promise.specs.Promise.{Of}
+
+pub record Offered (b : List ℕ) (es : List Event) (bs : List ℕ) (s : Session) (taken refusal : ℕ) (nodes : List ℕ) : Type 0 where
+  -- the events accepted by then
+  pub events : List Event
+  pub reached : Of b events s
+  pub within : 8 * taken ≤ length bs
+  pub accepted : offering (decode b) taken es bs ≡ record { events = events; refusal = none }
+  pub left : (refusal ≡ 0 → ⊥) → 8 * taken < length bs
+  pub stopped : (refusal ≡ 0 → ⊥) → offering (decode b) 1 events (drop (8 * taken) bs) ≡ record { events = events; refusal = some refusal }
+  pub listing : listed (decode b) (document es) ++ nodes ≡ listed (decode b) (document events)

@@ -1,0 +1,105 @@
+-- Offers that follow each other.
+--
+--   none-offered        before the first record
+--   offered-then        TWO BLOCKS ONE AFTER THE OTHER ARE ONE STREAM
+--   offered-more        bytes that come behind change nothing, as long as no record was refused
+--   offered-short       what is left is under 8 bytes: a bad record
+--   offered-all, offered-stopped     all is taken, or one was refused: what offering all of the bytes comes to
+--   offered-count       each taken record is an event
+--   offered-few         no more than 33,554,430 events are accepted
+--
+-- Assumes nothing.
+use Prim.Native.Nat.{ℕ, _+_, _-_, _*_, _/_, _≤_, _<_}
+use native.Mathlib.Nat.{zero-add}
+use native.Mathlib.Omega.{arith}
+use mathlib.Core.Path.{_≡_, refl, sym, ap, _∙_}
+use mathlib.Core.List.{List, [], _++_, append-nil, append-assoc}
+use mathlib.Core.Option.{Option, none, some}
+use lib.ListN.{length, drop, length-append, length-drop}
+use lib.Seq.{drop-drop}
+use Rattle.meaning.specs.Stream.{Event, document}
+use Rattle.meaning.specs.Standing.{listed}
+use Rattle.meaning.specs.Offering.{Offering, offering, offeringAll}
+use Rattle.meaning.specs.Offering.Laws.{offering-then, offering-stopped, offering-more, offering-short, length-offered, most-events}
+use Rattle.query.specs.Decode.{decode}
+use Rattle.session.specs.declared.Session.{Session}
+use Rattle.promise.specs.Promise.{Of}
+use Rattle.pick.specs.Offered.{Offered}
+
+pub none-offered : {b : List ℕ} {es : List Event} {s : Session} (bs : List ℕ) → Of b es s → Offered b es bs s 0 0 []
+unfolding offering
+none-offered {b} {es} bs o =
+    record {
+      events = es;
+      reached = o;
+      within = omega arith;
+      accepted = refl;
+      left = λ z. absurd (z refl);
+      stopped = λ z. absurd (z refl);
+      listing = append-nil (listed (decode b) (document es));
+    }
+
+module _ {b : List ℕ} {es : List Event} {bs : List ℕ} {s : Session} {t : ℕ} {ns : List ℕ} (o : Offered b es bs s t 0 ns) where
+  pub offered-then :
+      {s′ : Session} {t′ r : ℕ} {ns′ : List ℕ} → Offered b (o .events) (drop (8 * t) bs) s′ t′ r ns′ → Offered b es bs s′ (t + t′) r (ns ++ ns′)
+  offered-then {s′} {t′} {r} {ns′} p =
+      let at : 8 * t + 8 * t′ ≡ 8 * (t + t′) = omega arith in
+      let rest : drop (8 * t′) (drop (8 * t) bs) ≡ drop (8 * (t + t′)) bs = drop-drop (8 * t′) (8 * t) bs ∙ ap (λ (k : ℕ). drop k bs) at in
+      record {
+        events = p .events;
+        reached = p .reached;
+        within = omega (arith, o .within, p .within, length-drop (8 * t) bs);
+        accepted = offering-then (decode b) t t′ es (o .events) bs (o .accepted) ∙ p .accepted;
+        left = λ z. omega (arith, o .within, p .left z, length-drop (8 * t) bs);
+        stopped = λ z. ap (offering (decode b) 1 (p .events)) (sym rest) ∙ p .stopped z;
+        listing =
+            sym (append-assoc (listed (decode b) (document es)) ns ns′)
+            ∙ ap (λ (l : List ℕ). l ++ ns′) (o .listing)
+            ∙ p .listing;
+      }
+
+  pub offered-more : (more : List ℕ) → Offered b es (bs ++ more) s t 0 ns
+  offered-more more =
+      record {
+        events = o .events;
+        reached = o .reached;
+        within = omega (arith, o .within, length-append bs more);
+        accepted = offering-more (decode b) t es bs more (o .within) ∙ o .accepted;
+        left = λ z. absurd (z refl);
+        stopped = λ z. absurd (z refl);
+        listing = o .listing;
+      }
+
+  -- "Leftover bytes under 8 are a bad record."
+  pub offered-short : 8 * t < length bs → length bs < 8 * t + 8 → Offered b es bs s t 2 ns
+  offered-short beyond few =
+      record {
+        events = o .events;
+        reached = o .reached;
+        within = o .within;
+        accepted = o .accepted;
+        left = λ z. beyond;
+        stopped = λ z. offering-short (decode b) (o .events) (drop (8 * t) bs) (omega (arith, length-drop (8 * t) bs));
+        listing = o .listing;
+      }
+
+-- the whole of the bytes
+
+module _ {b bs : List ℕ} {s : Session} {t r : ℕ} {ns : List ℕ} (o : Offered b [] bs s t r ns) where
+  pub offered-all : r ≡ 0 → length bs ≤ 8 * t → offeringAll (decode b) bs ≡ record { events = o .events; refusal = none }
+  offered-all z h =
+      let n : (length bs + 7) / 8 ≡ t = omega (arith, o .within) in
+      ap (λ (k : ℕ). offering (decode b) k [] bs) n ∙ o .accepted
+
+  pub offered-stopped : (r ≡ 0 → ⊥) → offeringAll (decode b) bs ≡ record { events = o .events; refusal = some r }
+  offered-stopped z =
+      let n : (length bs + 7) / 8 ≡ (t + 1) + ((length bs + 7) / 8 - (t + 1)) = omega (arith, o .left z) in
+      ap (λ (k : ℕ). offering (decode b) k [] bs) n
+      ∙ offering-stopped (decode b) (t + 1) _ [] (o .events) r bs
+      (offering-then (decode b) t 1 [] (o .events) bs (o .accepted) ∙ o .stopped z)
+
+  pub offered-count : length (o .events) ≡ t
+  offered-count = length-offered (decode b) t [] (o .events) bs (o .accepted) ∙ zero-add t
+
+  pub offered-few : t ≤ 33554430
+  offered-few = omega (arith, offered-count, most-events (decode b) (o .events) (o .reached .stream) (o .reached .bounds))

@@ -1,0 +1,126 @@
+-- What holds between two turns of the program, and what each function makes of it.
+--
+--   unread s input             what is read and not taken yet
+--   Within s n                 it lies in the first n bytes of the input
+--   Begun session              begin has made the session for some query
+--   leftoverOf left            the refusal of so many leftover bytes, or 0
+--   goesOn refusal ended written      there is more to do
+--   ReadMore fd s i s′ i′      a read of fd: what it gave stands behind what was left over; where it gave nothing, the leftover bytes are a bad record
+--   Worked s input out s′      a block of events: the state is what it came to (crate blocks, Fed), the bytes not taken stand where the state says, and the
+--                              lines of the nodes that it listed, and no others, were handed to standard output
+--   Turned fd s i out s′ i′    the one or the other, by whether a whole record is there
+--   Underway b fd s input      what the turns have come to, for the query bytes b, in the words of the meaning
+--   WorkedAll fd session s     what all turns come to
+--   Answered session l l′ r    the last line stands at the start of the text, or standard output took no more
+--
+-- Assumes nothing. NOT here: what is owed (Program), what offering records comes to (Offered).
+-- pub mod Laws
+use Prim.Native.Nat.{ℕ, zero, suc, _-_, _+_, _*_, _/_, _≤_, _<_}
+use mathlib.Core.Logic.{_⊎_}
+use mathlib.Core.Path.{_≡_}
+use mathlib.Core.Bool.{Bool, true, false, not, _&&_}
+use mathlib.Core.List.{List, [], _++_}
+use mathlib.Core.Option.{Option, none, some}
+use lib.Dec.{eqb}
+use lib.IntN.{ℤ}
+use lib.ListN.{length, take, drop}
+use Rattle.choice.specs.Pick.{pick}
+use Rattle.meaning.specs.Stream.{document}
+use Rattle.meaning.specs.Standing.{listed}
+use Rattle.meaning.specs.Offering.{offeringAll}
+use Rattle.query.specs.Decode.{decode}
+use Rattle.session.specs.declared.Session.{Session}
+use Rattle.promise.specs.Promise.{Of}
+use Rattle.blocks.specs.Fed.{Fed, fed}
+use Rattle.lines.specs.Put.{Put}
+use Rattle.lines.specs.Text.{linesOf, nodesIn}
+use Rattle.system.specs.Marks.{Given, Handed, Received, Delivered}
+use Rattle.pick.specs.declared.State.{State}
+use Rattle.pick.specs.Offered.{Offered}
+use Rattle.pick.specs.Program.{lastLineOf, Failed, eventsName, Read}
+
+abbrev pub unread : State → List ℕ → List ℕ
+unread s input = take (s .end - s .from) (drop (s .from) input)
+
+-- the number 0 stands for no refusal
+unfoldable pub refusalOf : ℕ → Option ℕ
+refusalOf zero = none
+refusalOf (suc r) = some (suc r)
+
+pub record Within (s : State) (n : ℕ) : Type 0 where
+  pub forward : s .from ≤ s .end
+  pub inside : s .end ≤ n
+
+pub record Begun (session : Session) : Type 0 where
+  pub query : List ℕ
+  pub begun : Of query [] session
+
+-- "Leftover bytes under 8 are a bad record."
+unfoldable pub leftoverOf : ℕ → ℕ
+leftoverOf left = pick (eqb left 0) 0 2
+
+unfoldable pub goesOn : ℕ → Bool → Bool → Bool
+goesOn refusal ended written = pick (eqb refusal 0) (pick ended false written) false
+
+pub record ReadMore (fd : ℤ) (s : State) (input : List ℕ) (s′ : State) (input′ : List ℕ) : Type 0 where
+  -- what the read gave
+  pub bytes : List ℕ
+  pub given : Given fd bytes
+  pub behind : unread s′ input′ ≡ unread s input ++ bytes
+  pub within : Within s′ (length input′)
+  pub session-same : s′ .session ≡ s .session
+  pub taken-same : s′ .taken ≡ s .taken
+  pub written-same : s′ .written ≡ s .written
+  pub ended-so : s′ .ended ≡ eqb (length bytes) 0
+  pub refused-so : s′ .refusal ≡ pick (s′ .ended) (leftoverOf (s .end - s .from)) 0
+
+-- the block that is worked on
+abbrev pub blockOf : State → List ℕ → List ℕ → Fed
+blockOf s input out = fed (length (unread s input) / 8) (s .session) (unread s input) out
+
+pub record Worked (s : State) (input out : List ℕ) (s′ : State) : Type 0 where
+  pub session-so : s′ .session ≡ blockOf s input out .session
+  pub taken-so : s′ .taken ≡ s .taken + blockOf s input out .taken
+  pub refusal-so : s′ .refusal ≡ blockOf s input out .refusal
+  pub left : unread s′ input ≡ drop (8 * blockOf s input out .taken) (unread s input)
+  pub within : Within s′ (length input)
+  pub not-ended : s′ .ended ≡ false
+  pub handed : Handed (linesOf (nodesIn (blockOf s input out .listed) (blockOf s input out .out))) (s′ .written)
+
+pub data Turned (fd : ℤ) (s : State) (input out : List ℕ) (s′ : State) (input′ : List ℕ) : Type 0 where
+  worked : 8 ≤ s .end - s .from → input′ ≡ input → Worked s input out s′ → Turned fd s input out s′ input′
+  read : s .end - s .from < 8 → ReadMore fd s input s′ input′ → Turned fd s input out s′ input′
+
+pub record Underway (b : List ℕ) (fd : ℤ) (s : State) (input : List ℕ) : Type 0 where
+  -- what the reads have given, end to end, and what is listed for it
+  pub bytes : List ℕ
+  pub nodes : List ℕ
+  pub received : Received fd bytes
+  pub offered : Offered b [] bytes (s .session) (s .taken) (s .refusal) nodes
+  pub rest : unread s input ≡ drop (8 * s .taken) bytes
+  pub over : s .ended ≡ true → s .refusal ≡ 0 → length bytes ≤ 8 * s .taken
+  pub delivered : s .written ≡ true → Delivered (linesOf nodes)
+  pub failed : s .written ≡ false → Failed
+
+-- the whole stream, for the query bytes b
+pub record Streamed (b : List ℕ) (fd : ℤ) (s : State) : Type 0 where
+  pub bytes : List ℕ
+  pub received : Received fd bytes
+  pub reached : Of b (offeringAll (decode b) bytes .events) (s .session)
+  pub counted : s .taken ≡ length (offeringAll (decode b) bytes .events)
+  pub refusal-so : refusalOf (s .refusal) ≡ offeringAll (decode b) bytes .refusal
+  pub delivered : Delivered (linesOf (listed (decode b) (document (offeringAll (decode b) bytes .events))))
+
+pub record WorkedAll (fd : ℤ) (session : Session) (s : State) : Type 0 where
+  pub few : s .taken ≤ 33554430
+  pub streamed : s .written ≡ true → (b : List ℕ) → Of b [] session → Streamed b fd s
+  pub failed : s .written ≡ false → Failed
+
+pub record Lined (b text text′ : List ℕ) (r : ℕ) : Type 0 where
+  pub bytes : List ℕ
+  pub events-read : Read eventsName bytes
+  pub delivered : Delivered (linesOf (listed (decode b) (document (offeringAll (decode b) bytes .events))))
+  pub line : Put text 0 (lastLineOf (decode b) (offeringAll (decode b) bytes)) text′ r
+
+abbrev pub Answered : Session → List ℕ → List ℕ → ℕ → Type 0
+Answered session text text′ r = ((b : List ℕ) → Of b [] session → Lined b text text′ r) ⊎ Failed
