@@ -14,7 +14,7 @@
 --   Answered session l l′ r    the last line stands at the start of the text, or standard output took no more
 --
 -- Assumes nothing. NOT here: what is owed (Program), what offering records comes to (Offered).
--- pub mod Laws
+pub mod Laws
 use Prim.Native.Nat.{ℕ, zero, suc, _-_, _+_, _*_, _/_, _≤_, _<_}
 use mathlib.Core.Logic.{_⊎_}
 use mathlib.Core.Path.{_≡_}
