@@ -15,7 +15,6 @@ use mathlib.Core.Path.{_≡_}
 use mathlib.Core.Bool.{Bool, true, false}
 use mathlib.Core.List.{List, [], _∷_, _++_}
 use mathlib.Core.Option.{Option, none, some}
-use lib.IntN.{ℤ}
 use lib.ListN.{length}
 use Rattle.choice.specs.Pick.{pick}
 use Rattle.meaning.specs.Query.{Query}
@@ -26,6 +25,7 @@ use Rattle.meaning.specs.Offering.{Offering, offeringAll}
 use Rattle.query.specs.Answer.{Answer, admitted, refused, refusedAt, answerTo}
 use Rattle.query.specs.Decode.{decode}
 use Rattle.lines.specs.Text.{linesOf, endLine, refusedAtLine, refusedLine}
+use Rattle.system.specs.declared.File.{File}
 use Rattle.system.specs.Marks.{Opened, Given, Handed, Received, Delivered}
 
 -- "`end N` with the number handed out"; "for refusal 8 the number of accepted events"
@@ -69,9 +69,9 @@ eventsName = 101 ∷ 118 ∷ 101 ∷ 110 ∷ 116 ∷ 115 ∷ 46 ∷ 114 ∷ 101 
 
 -- the bytes that reads of a file gave, end to end
 pub record Read (name bytes : List ℕ) : Type 0 where
-  pub fd : ℤ
-  pub opened : Opened name fd
-  pub received : Received fd bytes
+  pub file : File
+  pub opened : Opened name file
+  pub received : Received file bytes
 
 -- events are read only for an admitted query
 pub record Ran : Type 0 where

@@ -5,16 +5,17 @@
 --   Begun session              begin has made the session for some query
 --   leftoverOf left            the refusal of so many leftover bytes, or 0
 --   goesOn refusal ended written      there is more to do
---   ReadMore fd s i s′ i′      a read of fd: what it gave stands behind what was left over; where it gave nothing, the leftover bytes are a bad record
+--   ReadMore file s i s′ i′      a read of file: what it gave stands behind what was left over; where it gave nothing, the leftover bytes are a bad record
 --   Worked s input out s′      a block of events: the state is what it came to (crate blocks, Fed), the bytes not taken stand where the state says, and the
 --                              lines of the nodes that it listed, and no others, were handed to standard output
---   Turned fd s i out s′ i′    the one or the other, by whether a whole record is there
---   Underway b fd s input      what the turns have come to, for the query bytes b, in the words of the meaning
---   WorkedAll fd session s     what all turns come to
+--   Turned file s i out s′ i′    the one or the other, by whether a whole record is there
+--   Underway b file s input      what the turns have come to, for the query bytes b, in the words of the meaning
+--   WorkedAll file session s     what all turns come to
 --   Answered session l l′ r    the last line stands at the start of the text, or standard output took no more
 --
 -- Assumes nothing. NOT here: what is owed (Program), what offering records comes to (Offered).
 pub mod Laws
+pub mod Turns
 use Prim.Native.Nat.{ℕ, zero, suc, _-_, _+_, _*_, _/_, _≤_, _<_}
 use mathlib.Core.Logic.{_⊎_}
 use mathlib.Core.Path.{_≡_}
@@ -22,7 +23,6 @@ use mathlib.Core.Bool.{Bool, true, false, not, _&&_}
 use mathlib.Core.List.{List, [], _++_}
 use mathlib.Core.Option.{Option, none, some}
 use lib.Dec.{eqb}
-use lib.IntN.{ℤ}
 use lib.ListN.{length, take, drop}
 use Rattle.choice.specs.Pick.{pick}
 use Rattle.meaning.specs.Stream.{document}
@@ -34,6 +34,7 @@ use Rattle.promise.specs.Promise.{Of}
 use Rattle.blocks.specs.Fed.{Fed, fed}
 use Rattle.lines.specs.Put.{Put}
 use Rattle.lines.specs.Text.{linesOf, nodesIn}
+use Rattle.system.specs.declared.File.{File}
 use Rattle.system.specs.Marks.{Given, Handed, Received, Delivered}
 use Rattle.pick.specs.declared.State.{State}
 use Rattle.pick.specs.Offered.{Offered}
@@ -62,10 +63,10 @@ leftoverOf left = pick (eqb left 0) 0 2
 unfoldable pub goesOn : ℕ → Bool → Bool → Bool
 goesOn refusal ended written = pick (eqb refusal 0) (pick ended false written) false
 
-pub record ReadMore (fd : ℤ) (s : State) (input : List ℕ) (s′ : State) (input′ : List ℕ) : Type 0 where
+pub record ReadMore (file : File) (s : State) (input : List ℕ) (s′ : State) (input′ : List ℕ) : Type 0 where
   -- what the read gave
   pub bytes : List ℕ
-  pub given : Given fd bytes
+  pub given : Given file bytes
   pub behind : unread s′ input′ ≡ unread s input ++ bytes
   pub within : Within s′ (length input′)
   pub session-same : s′ .session ≡ s .session
@@ -87,15 +88,15 @@ pub record Worked (s : State) (input out : List ℕ) (s′ : State) : Type 0 whe
   pub not-ended : s′ .ended ≡ false
   pub handed : Handed (linesOf (nodesIn (blockOf s input out .listed) (blockOf s input out .out))) (s′ .written)
 
-pub data Turned (fd : ℤ) (s : State) (input out : List ℕ) (s′ : State) (input′ : List ℕ) : Type 0 where
-  worked : 8 ≤ s .end - s .from → input′ ≡ input → Worked s input out s′ → Turned fd s input out s′ input′
-  read : s .end - s .from < 8 → ReadMore fd s input s′ input′ → Turned fd s input out s′ input′
+pub data Turned (file : File) (s : State) (input out : List ℕ) (s′ : State) (input′ : List ℕ) : Type 0 where
+  worked : 8 ≤ s .end - s .from → input′ ≡ input → Worked s input out s′ → Turned file s input out s′ input′
+  read : s .end - s .from < 8 → ReadMore file s input s′ input′ → Turned file s input out s′ input′
 
-pub record Underway (b : List ℕ) (fd : ℤ) (s : State) (input : List ℕ) : Type 0 where
+pub record Underway (b : List ℕ) (file : File) (s : State) (input : List ℕ) : Type 0 where
   -- what the reads have given, end to end, and what is listed for it
   pub bytes : List ℕ
   pub nodes : List ℕ
-  pub received : Received fd bytes
+  pub received : Received file bytes
   pub offered : Offered b [] bytes (s .session) (s .taken) (s .refusal) nodes
   pub rest : unread s input ≡ drop (8 * s .taken) bytes
   pub over : s .ended ≡ true → s .refusal ≡ 0 → length bytes ≤ 8 * s .taken
@@ -103,17 +104,17 @@ pub record Underway (b : List ℕ) (fd : ℤ) (s : State) (input : List ℕ) : T
   pub failed : s .written ≡ false → Failed
 
 -- the whole stream, for the query bytes b
-pub record Streamed (b : List ℕ) (fd : ℤ) (s : State) : Type 0 where
+pub record Streamed (b : List ℕ) (file : File) (s : State) : Type 0 where
   pub bytes : List ℕ
-  pub received : Received fd bytes
+  pub received : Received file bytes
   pub reached : Of b (offeringAll (decode b) bytes .events) (s .session)
   pub counted : s .taken ≡ length (offeringAll (decode b) bytes .events)
   pub refusal-so : refusalOf (s .refusal) ≡ offeringAll (decode b) bytes .refusal
   pub delivered : Delivered (linesOf (listed (decode b) (document (offeringAll (decode b) bytes .events))))
 
-pub record WorkedAll (fd : ℤ) (session : Session) (s : State) : Type 0 where
+pub record WorkedAll (file : File) (session : Session) (s : State) : Type 0 where
   pub few : s .taken ≤ 33554430
-  pub streamed : s .written ≡ true → (b : List ℕ) → Of b [] session → Streamed b fd s
+  pub streamed : s .written ≡ true → (b : List ℕ) → Of b [] session → Streamed b file s
   pub failed : s .written ≡ false → Failed
 
 pub record Lined (b text text′ : List ℕ) (r : ℕ) : Type 0 where

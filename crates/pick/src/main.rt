@@ -19,6 +19,7 @@ use blocks::Ran;
 use query::QueryAnswer;
 use session::Finish;
 use session::Session;
+use system::File;
 
 // How far the stream is worked on.
 struct State {
@@ -107,14 +108,14 @@ fn leftover(left: usize) -> u8
 }
 
 // Reads once, behind what is left over.
-fn read_more(fd: i32, state: State, input: &mut [u8]) -> State
+fn read_more(file: File, state: State, input: &mut [u8]) -> State
     requires { ⌜ Within state (length (now input)) ⌝ }
-    ensures { λ r. ⌜ ReadMore fd state (now (input .entry)) r (now (input .exit)) ⌝ }
+    ensures { λ r. ⌜ ReadMore file state (now (input .entry)) r (now (input .exit)) ⌝ }
 {
     let from = state.from;
     let left = state.end - from;
     move_down(input, from, left);
-    let more = system::read_at(fd, input, left);
+    let more = system::read_at(file, input, left);
     let session = state.session;
     let taken = state.taken;
     let written = state.written;
@@ -168,16 +169,16 @@ fn work_block(state: State, input: &[u8], out: &mut [u8], text: &mut [u8]) -> St
 }
 
 // Works on what is read where a whole record is there, else reads once.
-fn turn(fd: i32, state: State, input: &mut [u8], out: &mut [u8], text: &mut [u8]) -> State
+fn turn(file: File, state: State, input: &mut [u8], out: &mut [u8], text: &mut [u8]) -> State
     requires { ⌜ Within state (length (now input)) × (11 * length (now out) ≤ 4 * length (now text)) ⌝ }
     requires { ⌜ (length (now input) ≤ 65536) × (state .taken ≤ 33554430) ⌝ }
-    ensures { λ r. ⌜ Turned fd state (now (input .entry)) (now (out .entry)) r (now (input .exit)) ⌝ }
+    ensures { λ r. ⌜ Turned file state (now (input .entry)) (now (out .entry)) r (now (input .exit)) ⌝ }
 {
     let left = state.end - state.from;
     if 8 <= left {
         return work_block(state, &*input, out, text);
     }
-    read_more(fd, state, input)
+    read_more(file, state, input)
 }
 
 // Whether there is more to do.
@@ -195,10 +196,10 @@ fn goes_on(refusal: u8, ended: bool, written: bool) -> bool
 
 // A file need not end, but the loop does: a turn that reads gets a byte or is the last, a turn that works takes an event or is the last, and no
 // more than 33,554,430 events are ever taken.
-fn work_all(fd: i32, session: Session, input: &mut [u8], out: &mut [u8], text: &mut [u8]) -> State
+fn work_all(file: File, session: Session, input: &mut [u8], out: &mut [u8], text: &mut [u8]) -> State
     requires { ⌜ (length (now input) ≤ 65536) × (11 * length (now out) ≤ 4 * length (now text)) ⌝ }
     requires { ⌜ (516 ≤ length (now out)) × Begun session ⌝ }
-    ensures { λ r. ⌜ WorkedAll fd session r ⌝ }
+    ensures { λ r. ⌜ WorkedAll file session r ⌝ }
 {
     let mut state = State {
         session,
@@ -210,7 +211,7 @@ fn work_all(fd: i32, session: Session, input: &mut [u8], out: &mut [u8], text: &
         written: true,
     };
     while goes_on(state.refusal, state.ended, state.written) {
-        state = turn(fd, state, input, out, text);
+        state = turn(file, state, input, out, text);
     }
     state
 }
@@ -223,9 +224,9 @@ fn answer_events(session: Session, text: &mut [u8]) -> usize
 {
     let mut input = [0u8; 65536];
     let mut out = [0u8; 32768];
-    let fd = system::open(b"events.rec");
-    let state = work_all(fd, session, &mut input, &mut out, text);
-    system::close(fd);
+    let file = system::open(b"events.rec");
+    let state = work_all(file, session, &mut input, &mut out, text);
+    system::close(file);
     if !state.written {
         return 0;
     }
@@ -241,9 +242,9 @@ fn answer_files()
     // one record more than a query may have
     let mut query = [0u8; 264];
     let mut text = [0u8; 90112];
-    let fd = system::open(b"query.rec");
-    let n = system::read_full(fd, &mut query);
-    system::close(fd);
+    let file = system::open(b"query.rec");
+    let n = system::read_full(file, &mut query);
+    system::close(file);
     let begun = session::begin(&query[..n]);
     let answer = begun.answer;
     let refused = query_line(answer, &mut text);

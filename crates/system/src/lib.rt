@@ -8,28 +8,34 @@ ghost use lib.ListN.{length, take, drop};
 ghost use Rattle.io.specs.Counts.{Counts};
 ghost use Rattle.system.specs.Marks.{Opened, Given, Handed, ReadAt};
 
-// Opens a file for reading. A file that can't be opened gets a number of which every read fails.
-pub fn open(path: &[u8]) -> i32
+// A file that was opened for reading, by the system's number for it.
+pub struct File {
+    number: i32,
+}
+
+// Opens a file for reading. Of one that can't be opened every read fails.
+pub fn open(path: &[u8]) -> File
     ensures { λ r. ⌜ Opened (now (path .entry)) r ⌝ }
 {
-    os::open_read(path)
+    let number = os::open_read(path);
+    File { number }
 }
 
 // Reads once, into `input` from `at` on. Answers how many bytes came; 0 at the end, and where the read fails.
-pub fn read_at(fd: i32, input: &mut [u8], at: usize) -> usize
+pub fn read_at(file: File, input: &mut [u8], at: usize) -> usize
     requires { ⌜ at ≤ length (now input) ⌝ }
-    ensures { λ r. ⌜ ReadAt fd at (now (input .entry)) (now (input .exit)) r ⌝ }
+    ensures { λ r. ⌜ ReadAt file at (now (input .entry)) (now (input .exit)) r ⌝ }
 {
-    let got = libc::read(fd, &mut input[at..]);
+    let got = libc::read(file.number, &mut input[at..]);
     io::count(got, &input[at..])
 }
 
 // Reads until `input` is full, the file ends or a read fails. Answers how many bytes came.
-pub fn read_full(fd: i32, input: &mut [u8]) -> usize
-    ensures { λ r. ⌜ Given fd (take r (now (input .exit))) ⌝ }
+pub fn read_full(file: File, input: &mut [u8]) -> usize
+    ensures { λ r. ⌜ Given file (take r (now (input .exit))) ⌝ }
     ensures { λ r. ⌜ Counts r (now (input .exit)) ⌝ }
 {
-    io::read_full(fd, input)
+    io::read_full(file.number, input)
 }
 
 // Hands bytes to standard output. Answers whether all were taken.
@@ -39,6 +45,6 @@ pub fn write(bytes: &[u8]) -> bool
     io::write_all(libc::STDOUT_FILENO, bytes)
 }
 
-pub fn close(fd: i32) {
-    libc::close(fd);
+pub fn close(file: File) {
+    libc::close(file.number);
 }

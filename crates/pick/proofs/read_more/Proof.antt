@@ -1,5 +1,4 @@
 -- `pick::read_more` meets its contract. Assumes nothing.
-use mir.Facts.{toZ-ofZ}
 use borrow.Author.Needs.{needs}
 use Rattle.pick.specs.State.Laws.{read-nothing, read-some}
 use Rattle.pick.proofs.read_more.Statement.{statement}
@@ -25,7 +24,7 @@ returns c =
     let start = c .before .before .before .before .before .before .before .before .before .before .before .before .before in
     let read = c .before .before .before .before .before .read-at in
     let moved = c .before .before .before .before .before .before .before .before .before .move-down in
-    read-nothing (start .args .fd) _ (toZ-ofZ (start .fits .fd)) (start .args .state) (start .args .input .now) _ _ (read .result) (start .pre) (moved .ensures)
+    read-nothing (start .args .file) (start .args .state) (start .args .input .now) _ _ (read .result) (start .pre) (moved .ensures)
     (read .ensures) (c .before .if1 .taken) (c .leftover .result) (c .leftover .ensures)
 
 add-t17 : tie.Need-add-t17
@@ -39,7 +38,7 @@ returns-2 c =
     let start = c .before .before .before .before .before .before .before .before .before .before .before .before in
     let read = c .before .before .before .before .read-at in
     let moved = c .before .before .before .before .before .before .before .before .move-down in
-    read-some (start .args .fd) _ (toZ-ofZ (start .fits .fd)) (start .args .state) (start .args .input .now) _ _ (read .result) (start .pre) (moved .ensures)
+    read-some (start .args .file) (start .args .state) (start .args .input .now) _ _ (read .result) (start .pre) (moved .ensures)
     (read .ensures) (c .if1 .left)
 
 pub read-more-spec : {M : Type 1} → statement M

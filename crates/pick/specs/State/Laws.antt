@@ -12,7 +12,6 @@ use mathlib.Core.Path.{_≡_, refl, sym, ap, ap₂, _∙_, subst}
 use mathlib.Core.Bool.{Bool, true, false}
 use mathlib.Core.List.{List, [], _∷_, _++_}
 use lib.Dec.{eqb}
-use lib.IntN.{ℤ}
 use lib.ListN.{length, take, drop, take-append-drop, length-take, length-drop}
 use lib.Seq.{take-append-add, drop-drop, length-take-le, length-sets}
 use borrow.Author.Tests.{eq-eqb, ne-eqb}
@@ -22,6 +21,7 @@ use Rattle.blocks.specs.Fed.{Fed}
 use Rattle.lines.specs.Put.{Put}
 use Rattle.lines.specs.PutLaws.{put-taken}
 use Rattle.lines.specs.Text.{linesOf, nodesIn}
+use Rattle.system.specs.declared.File.{File}
 use Rattle.system.specs.Marks.{Given, Handed, ReadAt}
 use Rattle.pick.specs.declared.State.{State}
 use Rattle.pick.specs.State.{unread, Within, leftoverOf, ReadMore, blockOf, Worked}
@@ -45,10 +45,10 @@ drop-take (suc k) (suc n) (x ∷ l) =
 pub part-short : (l : List ℕ) (a e : ℕ) → length (take (e - a) (drop a l)) ≤ e - a
 part-short l a e = rw (length-take (e - a) (drop a l)) (omega arith)
 
--- a read; the number of the file goes through the machine's own form of it
+-- a read
 
-module _ (fd as-read : ℤ) (same : as-read ≡ fd) (s : State) (input moved-down input′ : List ℕ) (r : ℕ) (w : Within s (length input))
-    (moved : Put input 0 (unread s input) moved-down (s .end - s .from)) (got : ReadAt as-read (s .end - s .from) moved-down input′ r) where
+module _ (file : File) (s : State) (input moved-down input′ : List ℕ) (r : ℕ) (w : Within s (length input))
+    (moved : Put input 0 (unread s input) moved-down (s .end - s .from)) (got : ReadAt file (s .end - s .from) moved-down input′ r) where
   abbrev left : ℕ
   left = s .end - s .from
 
@@ -66,12 +66,12 @@ module _ (fd as-read : ℤ) (same : as-read ≡ fd) (s : State) (input moved-dow
 
   pub read-nothing :
       r ≡ 0 → (x : ℕ) → x ≡ leftoverOf left →
-      ReadMore fd s input (record { session = s .session; from = 0; end = left; taken = s .taken; refusal = x; ended = true; written = s .written }) input′
+      ReadMore file s input (record { session = s .session; from = 0; end = left; taken = s .taken; refusal = x; ended = true; written = s .written }) input′
   read-nothing z x e =
       let all : left - 0 ≡ left + r - 0 = omega arith in
       record {
         bytes = bytes;
-        given = subst (λ (z : ℤ). Given z bytes) same (got .given);
+        given = got .given;
         behind = ap (λ (k : ℕ). take k input′) all ∙ behind;
         within = record { forward = omega arith; inside = omega (arith, got .within) };
         session-same = refl;
@@ -83,11 +83,11 @@ module _ (fd as-read : ℤ) (same : as-read ≡ fd) (s : State) (input moved-dow
 
   pub read-some :
       (r ≡ 0 → ⊥) →
-      ReadMore fd s input (record { session = s .session; from = 0; end = left + r; taken = s .taken; refusal = 0; ended = false; written = s .written }) input′
+      ReadMore file s input (record { session = s .session; from = 0; end = left + r; taken = s .taken; refusal = 0; ended = false; written = s .written }) input′
   read-some z =
       record {
         bytes = bytes;
-        given = subst (λ (z : ℤ). Given z bytes) same (got .given);
+        given = got .given;
         behind = behind;
         within = record { forward = omega arith; inside = got .within };
         session-same = refl;

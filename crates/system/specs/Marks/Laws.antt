@@ -7,16 +7,16 @@ use Prim.Native.Nat.{ℕ, _-_, _≤_}
 use native.Mathlib.Omega.{arith}
 use mathlib.Core.Path.{_≡_}
 use mathlib.Core.List.{List}
-use lib.IntN.{ℤ}
 use lib.ListN.{length, take, drop, length-take, length-drop}
 use borrow.Rule.Slice.PartMut.{putMid, same-len-mid, take-put}
+use Rattle.system.specs.declared.File.{File}
 use Rattle.system.specs.Marks.{Given, ReadAt}
 
 pub read-part :
-    (fd : ℤ) (at : ℕ) (l ys : List ℕ) (r : ℕ) → at ≤ length l → length ys ≡ length (take (length l - at) (drop at l)) →
+    (file : File) (at : ℕ) (l ys : List ℕ) (r : ℕ) → at ≤ length l → length ys ≡ length (take (length l - at) (drop at l)) →
     r ≤ length (take (length (putMid at (length l - at) l ys) - at) (drop at (putMid at (length l - at) l ys))) →
-    Given fd (take r (drop at (putMid at (length l - at) l ys))) → ReadAt fd at l (putMid at (length l - at) l ys) r
-read-part fd at l ys r h e k g =
+    Given file (take r (drop at (putMid at (length l - at) l ys))) → ReadAt file at l (putMid at (length l - at) l ys) r
+read-part file at l ys r h e k g =
     let l′ : List ℕ = putMid at (length l - at) l ys in
     let long : length l′ ≡ length l = same-len-mid at (length l - at) l ys e in
     record {

@@ -7,16 +7,16 @@ use Prim.Native.Nat.{ℕ}
 use mathlib.Core.Path.{refl}
 use mathlib.Core.Bool.{Bool}
 use mathlib.Core.List.{List}
-use lib.IntN.{ℤ}
+use Rattle.system.specs.declared.File.{File}
 use Rattle.system.specs.Marks.{Opened, Given, Handed}
 
-pub opened : (path : List ℕ) (fd : ℤ) → Opened path fd
+pub opened : (path : List ℕ) (file : File) → Opened path file
 unfolding Opened
-opened path fd = refl
+opened path file = refl
 
-pub given : (fd : ℤ) (bytes : List ℕ) → Given fd bytes
+pub given : (file : File) (bytes : List ℕ) → Given file bytes
 unfolding Given
-given fd bytes = refl
+given file bytes = refl
 
 pub handed : (bytes : List ℕ) (taken : Bool) → Handed bytes taken
 unfolding Handed

@@ -1,0 +1,194 @@
+-- The turns together: what has been read, taken, listed and handed to standard output by then.
+--
+--   begun-underway          before the first turn
+--   turn-underway           one turn more
+--   measure L s input       how much is still to come at most, in an input of L bytes
+--   turn-less               each turn leaves less
+--   underway-few            no more than 33,554,430 events are ever taken
+--   underway-streamed       after the last turn the whole stream is offered, and all that it lists is delivered
+--
+-- Assumes nothing.
+use Prim.Native.Nat.{ℕ, zero, suc, _+_, _-_, _*_, _/_, _≤_, _<_}
+use native.Mathlib.Omega.{arith}
+use mathlib.Core.Path.{_≡_, refl, sym, ap, ap₂, _∙_, subst}
+use mathlib.Core.Bool.{Bool, true, false, not}
+use mathlib.Core.List.{List, [], _++_}
+use mathlib.Core.Option.{Option, none, some}
+use mir.Val.{boolByte}
+use lib.Dec.{eqb}
+use lib.ListN.{length, take, drop, length-append, length-drop}
+use lib.Seq.{drop-drop, drop-append-le, length-take-le}
+use borrow.Author.Tests.{eqb-true, eqb-false, eq-eqb, ne-eqb}
+use Rattle.choice.specs.Pick.{pick, pick-true, pick-false}
+use Rattle.choice.specs.Count.{boolByte-le}
+use Rattle.meaning.specs.Stream.{Event, document}
+use Rattle.meaning.specs.Standing.{listed}
+use Rattle.meaning.specs.Offering.{Offering, offeringAll}
+use Rattle.query.specs.Decode.{decode}
+use Rattle.session.specs.declared.Session.{Session}
+use Rattle.promise.specs.Promise.{Of}
+use Rattle.blocks.specs.Fed.{Fed}
+use Rattle.blocks.specs.Fed.Laws.{pick-known}
+use Rattle.lines.specs.Text.{linesOf, nodesIn}
+use Rattle.lines.specs.TextLaws.{linesOf-append}
+use Rattle.system.specs.declared.File.{File}
+use Rattle.system.specs.Marks.{Handed, received, nothing-yet, Delivered, delivered, none-yet}
+use Rattle.pick.specs.declared.State.{State}
+use Rattle.pick.specs.Offered.{Offered}
+use Rattle.pick.specs.Offered.Laws.{none-offered, offered-then, offered-more, offered-short, offered-all, offered-stopped, offered-count, offered-few}
+use Rattle.pick.specs.Offered.Block.{Told, fed-told}
+use Rattle.pick.specs.Program.{Failed}
+use Rattle.pick.specs.State.{unread, Within, leftoverOf, refusalOf, goesOn, ReadMore, blockOf, Worked, Turned, worked, read, Underway, Streamed}
+
+never : {A : Type 0} → _≡_ {A = Bool} false true → A
+never h = let z : _≡_ {A = ℕ} 0 1 = ap boolByte h in absurd (omega arith)
+
+-- what is known while there is more to do
+record Going (refusal : ℕ) (ended written : Bool) : Type 0 where
+  unrefused : refusal ≡ 0
+  not-ended : ended ≡ false
+  taking : written ≡ true
+
+going : (refusal : ℕ) (ended written : Bool) → goesOn refusal ended written ≡ true → Going refusal ended written
+unfolding goesOn
+going refusal ended written =
+    pick-known (λ (b : Bool). b ≡ true → Going refusal ended written) _ _ _
+    (λ z.
+    pick-known (λ (b : Bool). b ≡ true → Going refusal ended written) _ _ _ (λ e h. never h)
+    (λ e h. record { unrefused = eqb-true _ _ z; not-ended = e; taking = h }))
+    (λ z h. never h)
+
+-- leftover bytes
+
+leftover-none : (left : ℕ) → leftoverOf left ≡ 0 → left ≡ 0
+unfolding leftoverOf
+leftover-none left = pick-known (λ (n : ℕ). n ≡ 0 → left ≡ 0) _ _ _ (λ z e. eqb-true left 0 z) (λ z e. absurd (omega arith))
+
+module _ {b bs : List ℕ} {s : Session} {t left : ℕ} {ns : List ℕ} (o : Offered b [] bs s t 0 ns) (few : left < 8) (all : 8 * t + left ≡ length bs) where
+  offered-leftover : Offered b [] bs s t (leftoverOf left) ns
+  unfolding leftoverOf
+  offered-leftover =
+      pick-known (λ (r : ℕ). Offered b [] bs s t r ns) (eqb left 0) 0 2 (λ z. o)
+      (λ z. offered-short o (omega (arith, positive left (eqb-false left 0 z))) (omega arith))
+    where
+      positive : (n : ℕ) → (n ≡ 0 → ⊥) → 0 < n
+      positive zero f = absurd (f refl)
+      positive (suc n) f = omega arith
+
+  offered-at-end : (ended : Bool) → Offered b [] bs s t (pick ended (leftoverOf left) 0) ns
+  unfolding pick
+  offered-at-end true = offered-leftover
+  offered-at-end false = o
+
+offered-as :
+    {b : List ℕ} {es : List Event} {bs : List ℕ} {s s′ : Session} {t t′ r r′ : ℕ} {ns : List ℕ} → s′ ≡ s → t′ ≡ t → r′ ≡ r → Offered b es bs s t r ns →
+    Offered b es bs s′ t′ r′ ns
+offered-as e f g o = rw (e, f, g) o
+
+-- before the first turn
+
+pub begun-underway :
+    {b : List ℕ} (file : File) (session : Session) (input : List ℕ) → Of b [] session →
+    Underway b file (record { session = session; from = 0; end = 0; taken = 0; refusal = 0; ended = false; written = true }) input
+unfolding linesOf
+begun-underway file session input o =
+    record {
+      bytes = [];
+      nodes = [];
+      received = nothing-yet;
+      offered = none-offered [] o;
+      rest = refl;
+      over = λ e z. never e;
+      delivered = λ e. none-yet;
+      failed = λ e. never (sym e);
+    }
+
+-- how many bytes are unread
+
+unread-length : (s : State) (input : List ℕ) → Within s (length input) → length (unread s input) ≡ s .end - s .from
+unread-length s input w = length-take-le (s .end - s .from) (drop (s .from) input) (omega (arith, length-drop (s .from) input, w .inside))
+
+module _ {b : List ℕ} {file : File} (s : State) (input : List ℕ) (u : Underway b file s input) (go : goesOn (s .refusal) (s .ended) (s .written) ≡ true)
+    (w : Within s (length input)) where
+  g : Going (s .refusal) (s .ended) (s .written)
+  g = going (s .refusal) (s .ended) (s .written) go
+
+  so-far : Offered b [] (u .bytes) (s .session) (s .taken) 0 (u .nodes)
+  so-far = subst (λ (r : ℕ). Offered b [] (u .bytes) (s .session) (s .taken) r (u .nodes)) (g .unrefused) (u .offered)
+
+  all-read : 8 * s .taken + (s .end - s .from) ≡ length (u .bytes)
+  all-read = omega (arith, ap length (u .rest), unread-length s input w, length-drop (8 * s .taken) (u .bytes), so-far .within)
+
+  -- a read
+
+  module _ (s′ : State) (input′ : List ℕ) (few : s .end - s .from < 8) (m : ReadMore file s input s′ input′) where
+    read-all : 8 * s .taken + (s .end - s .from) + length (m .bytes) ≡ length (u .bytes ++ m .bytes)
+    read-all = omega (arith, all-read, length-append (u .bytes) (m .bytes))
+
+    ended-none : s′ .ended ≡ true → length (m .bytes) ≡ 0
+    ended-none e = eqb-true _ _ (sym (m .ended-so) ∙ e)
+
+    read-offered : (e : Bool) → s′ .ended ≡ e → Offered b [] (u .bytes ++ m .bytes) (s .session) (s .taken) (pick e (leftoverOf (s .end - s .from)) 0) (u .nodes)
+    read-offered true e = offered-at-end (offered-more so-far (m .bytes)) few (omega (arith, read-all, ended-none e)) true
+    read-offered false e = unfold pick in offered-more so-far (m .bytes)
+
+    read-underway : Underway b file s′ input′
+    read-underway =
+        record {
+          bytes = u .bytes ++ m .bytes;
+          nodes = u .nodes;
+          received = received (u .received) (m .bytes) (m .given);
+          offered = offered-as (m .session-same) (m .taken-same) (m .refused-so) (read-offered (s′ .ended) refl);
+          rest =
+              m .behind
+              ∙ ap (λ (x : List ℕ). x ++ m .bytes) (u .rest)
+              ∙ sym (drop-append-le (8 * s .taken) (u .bytes) (m .bytes) (so-far .within))
+              ∙ ap (λ (t : ℕ). drop (8 * t) (u .bytes ++ m .bytes)) (sym (m .taken-same));
+          over =
+              λ e z.
+              let none-left : s .end - s .from ≡ 0 =
+                  leftover-none (s .end - s .from) (sym (m .refused-so ∙ pick-true (s′ .ended) (leftoverOf (s .end - s .from)) 0 e) ∙ z) in
+              omega (arith, read-all, ended-none e, m .taken-same);
+          delivered = λ e. u .delivered (sym (m .written-same) ∙ e);
+          failed = λ e. u .failed (sym (m .written-same) ∙ e);
+        }
+
+  -- a block
+
+  module _ (out : List ℕ) (s′ : State) (b′ : Worked s input out s′) where
+    f : Fed
+    f = blockOf s input out
+
+    told : Told b (so-far .events) (unread s input) (length (unread s input) / 8) out (blockOf s input out)
+    told = fed-told (length (unread s input) / 8) (unread s input) out (so-far .reached) (omega arith)
+
+    more-nodes : List ℕ
+    more-nodes = nodesIn (blockOf s input out .listed) (blockOf s input out .out)
+
+    work-underway : Underway b file s′ input
+    unfolding more-nodes
+    work-underway =
+        let k : ℕ = blockOf s input out .taken in
+        let at : 8 * s .taken + 8 * k ≡ 8 * s′ .taken = omega (arith, b′ .taken-so) in
+        record {
+          bytes = u .bytes;
+          nodes = u .nodes ++ more-nodes;
+          received = u .received;
+          offered =
+              offered-as (b′ .session-so) (b′ .taken-so) (b′ .refusal-so)
+              (offered-then so-far
+              (subst
+              (λ (x : List ℕ). Offered b (so-far .events) x (blockOf s input out .session) k (blockOf s input out .refusal) more-nodes)
+              (u .rest) (told .offered)));
+          rest =
+              b′ .left
+              ∙ ap (drop (8 * k)) (u .rest)
+              ∙ drop-drop (8 * k) (8 * s .taken) (u .bytes)
+              ∙ ap (λ (n : ℕ). drop n (u .bytes)) at;
+          over = λ e z. never (sym (b′ .not-ended) ∙ e);
+          delivered =
+              λ e.
+              subst Delivered (sym (linesOf-append (u .nodes) more-nodes))
+              (delivered (u .delivered (g .taking)) (linesOf more-nodes) (subst (Handed (linesOf more-nodes)) e (b′ .handed)));
+          failed = λ e. record { bytes = linesOf more-nodes; handed = subst (Handed (linesOf more-nodes)) e (b′ .handed) };
+        }
