@@ -21,8 +21,10 @@ use lib.Seq.{drop-drop, drop-append-le, length-take-le}
 use borrow.Author.Tests.{eqb-true, eqb-false, eq-eqb, ne-eqb}
 use Rattle.choice.specs.Pick.{pick, pick-true, pick-false}
 use Rattle.choice.specs.Count.{boolByte-le}
-use Rattle.meaning.specs.Stream.{Event, document}
-use Rattle.meaning.specs.Standing.{listed}
+use Rattle.meaning.specs.Query.{Query}
+use Rattle.meaning.specs.Stream.{Event, run, document}
+use Rattle.meaning.specs.Selection.{marksRow, marks, selections}
+use Rattle.meaning.specs.Standing.{standingsOf, standings, listedFrom, listed}
 use Rattle.meaning.specs.Offering.{Offering, offeringAll}
 use Rattle.query.specs.Decode.{decode}
 use Rattle.session.specs.declared.Session.{Session}
@@ -42,6 +44,19 @@ use Rattle.pick.specs.State.{unread, Within, leftoverOf, refusalOf, goes
 
 never : {A : Type 0} → _≡_ {A = Bool} false true → A
 never h = let z : _≡_ {A = ℕ} 0 1 = ap boolByte h in absurd (omega arith)
+
+positive : (n : ℕ) → (n ≡ 0 → ⊥) → 0 < n
+positive zero f = absurd (f refl)
+positive (suc n) f = omega arith
+
+-- nothing is listed before the first event
+listed-none : (q : Query) → listed q (document []) ≡ []
+unfolding listed standings standingsOf selections marks marksRow document run listedFrom
+listed-none q = refl
+
+-- a turn that reads gives a byte or is the last; one that works takes an event, with its 8 bytes, or is the last
+abbrev pub measure : ℕ → State → List ℕ → ℕ
+measure L s input = 9 * (33554430 - s .taken) + (L - length (unread s input)) + (boolByte (eqb (s .refusal) 0) + boolByte (not (s .ended)))
 
 -- what is known while there is more to do
 record Going (refusal : ℕ) (ended written : Bool) : Type 0 where
@@ -70,10 +85,6 @@ module _ {b bs : List ℕ} {s : Session} {t left : ℕ} {ns : List ℕ} (o : Off
   offered-leftover =
       pick-known (λ (r : ℕ). Offered b [] bs s t r ns) (eqb left 0) 0 2 (λ z. o)
       (λ z. offered-short o (omega (arith, positive left (eqb-false left 0 z))) (omega arith))
-    where
-      positive : (n : ℕ) → (n ≡ 0 → ⊥) → 0 < n
-      positive zero f = absurd (f refl)
-      positive (suc n) f = omega arith
 
   offered-at-end : (ended : Bool) → Offered b [] bs s t (pick ended (leftoverOf left) 0) ns
   unfolding pick
@@ -192,3 +203,106 @@ module _ {b : List ℕ} {file : File} (s : State) (input : List ℕ) (u : Underw
               (delivered (u .delivered (g .taking)) (linesOf more-nodes) (subst (Handed (linesOf more-nodes)) e (b′ .handed)));
           failed = λ e. record { bytes = linesOf more-nodes; handed = subst (Handed (linesOf more-nodes)) e (b′ .handed) };
         }
+
+  pub turn-underway : (out : List ℕ) (s′ : State) (input′ : List ℕ) → Turned file s input out s′ input′ → Underway b file s′ input′
+  turn-underway out s′ input′ (worked many same x) = subst (Underway b file s′) (sym same) (work-underway out s′ x)
+  turn-underway out s′ input′ (read few m) = read-underway s′ input′ few m
+
+  -- how much is still to come
+
+  flags : boolByte (eqb (s .refusal) 0) + boolByte (not (s .ended)) ≡ 2
+  flags = ap₂ (λ (x : ℕ) (y : Bool). boolByte (eqb x 0) + boolByte (not y)) (g .unrefused) (g .not-ended)
+
+  read-less : (L : ℕ) (s′ : State) (input′ : List ℕ) → L ≡ length input′ → s .end - s .from < 8 → ReadMore file s input s′ input′ → measure L s′ input′ < measure L s input
+  read-less L s′ input′ long few m = by (s′ .ended) refl
+    where
+      more : length (unread s′ input′) ≡ length (unread s input) + length (m .bytes)
+      more = ap length (m .behind) ∙ length-append (unread s input) (m .bytes)
+
+      within : length (unread s′ input′) ≤ L
+      within = omega (arith, long, unread-length s′ input′ (m .within), m .within .inside)
+
+      by : (e : Bool) → s′ .ended ≡ e → measure L s′ input′ < measure L s input
+      by true e =
+          let last : boolByte (not (s′ .ended)) ≡ 0 = ap (λ (x : Bool). boolByte (not x)) e in
+          omega (arith, flags, last, more, within, m .taken-same, boolByte-le (eqb (s′ .refusal) 0))
+      by false e =
+          let some : 0 < length (m .bytes) = positive (length (m .bytes)) (eqb-false _ _ (sym (m .ended-so) ∙ e)) in
+          omega (arith, flags, some, more, within, m .taken-same, boolByte-le (eqb (s′ .refusal) 0), boolByte-le (not (s′ .ended)))
+
+  work-less :
+      (L : ℕ) (out : List ℕ) (s′ : State) → L ≡ length input → 8 ≤ s .end - s .from → 516 ≤ length out → Worked s input out s′ →
+      measure L s′ input < measure L s input
+  work-less L out s′ long many room x = by (eqb (s′ .refusal) 0) refl
+    where
+      k : ℕ
+      k = blockOf s input out .taken
+
+      left : length (unread s′ input) ≡ length (unread s input) - 8 * blockOf s input out .taken
+      left = ap length (x .left) ∙ length-drop (8 * blockOf s input out .taken) (unread s input)
+
+      few : s .taken + blockOf s input out .taken ≤ 33554430
+      few = omega (arith, offered-few (work-underway out s′ x .offered), x .taken-so)
+
+      by : (e : Bool) → eqb (s′ .refusal) 0 ≡ e → measure L s′ input < measure L s input
+      by true e =
+          let some : 0 < blockOf s input out .taken = told out s′ x .some (omega (arith, unread-length s input w)) room (sym (x .refusal-so) ∙ eqb-true _ _ e) in
+          omega
+          (arith, flags, some, left, few, long, told out s′ x .offered .within, unread-length s input w, w .inside, x .taken-so, boolByte-le (eqb (s′ .refusal) 0), boolByte-le (not (s′ .ended)))
+      by false e =
+          let stopped : boolByte (eqb (s′ .refusal) 0) ≡ 0 = ap boolByte e in
+          omega
+          (arith, flags, stopped, left, few, long, told out s′ x .offered .within, unread-length s input w, w .inside, x .taken-so, boolByte-le (not (s′ .ended)))
+
+  pub turn-less :
+      (L : ℕ) (out : List ℕ) (s′ : State) (input′ : List ℕ) → L ≡ length input → L ≡ length input′ → 516 ≤ length out → Turned file s input out s′ input′ →
+      measure L s′ input′ < measure L s input
+  turn-less L out s′ input′ long long′ room (worked many same x) =
+      subst (λ (i : List ℕ). measure L s′ i < measure L s input) (sym same) (work-less L out s′ long many room x)
+  turn-less L out s′ input′ long long′ room (read few m) = read-less L s′ input′ long′ few m
+
+-- after the last turn
+
+pub turn-within : {file : File} (s : State) (input out : List ℕ) (s′ : State) (input′ : List ℕ) → Turned file s input out s′ input′ → Within s′ (length input′)
+turn-within s input out s′ input′ (worked many same x) = subst (λ (i : List ℕ). Within s′ (length i)) (sym same) (x .within)
+turn-within s input out s′ input′ (read few m) = m .within
+
+module _ {b : List ℕ} {file : File} {s : State} {input : List ℕ} (u : Underway b file s input) where
+  pub underway-few : s .taken ≤ 33554430
+  underway-few = offered-few (u .offered)
+
+  -- the whole stream, by what offering it comes to
+  streamed-as :
+      (w : Offering) → offeringAll (decode b) (u .bytes) ≡ w → w .events ≡ u .offered .events → w .refusal ≡ refusalOf (s .refusal) →
+      s .written ≡ true → Streamed b file s
+  streamed-as w e ev r t =
+      let es : offeringAll (decode b) (u .bytes) .events ≡ u .offered .events = ap (λ (x : Offering). x .events) e ∙ ev in
+      record {
+        bytes = u .bytes;
+        received = u .received;
+        reached = subst (λ (fs : List Event). Of b fs (s .session)) (sym es) (u .offered .reached);
+        counted = sym (ap length es ∙ offered-count (u .offered));
+        refusal-so = sym (ap (λ (x : Offering). x .refusal) e ∙ r);
+        delivered =
+            subst Delivered (ap linesOf (u .offered .listing ∙ ap (λ (fs : List Event). listed (decode b) (document fs)) (sym es)))
+            (subst (λ (l : List ℕ). Delivered (linesOf (l ++ u .nodes))) (sym (listed-none (decode b))) (u .delivered t));
+      }
+
+  pub underway-streamed : goesOn (s .refusal) (s .ended) (s .written) ≡ false → s .written ≡ true → Streamed b file s
+  unfolding goesOn refusalOf
+  underway-streamed stop t =
+      pick-known (λ (x : Bool). x ≡ false → Streamed b file s) (eqb (s .refusal) 0) _ _
+      (λ z.
+      pick-known (λ (x : Bool). x ≡ false → Streamed b file s) (s .ended) _ _
+      (λ e h.
+      streamed-as _ (offered-all (u .offered) (eqb-true _ _ z) (u .over e (eqb-true _ _ z))) refl
+      (refusal-none (s .refusal) (eqb-true _ _ z)) t)
+      (λ e h. never (sym h ∙ t)))
+      (λ z h. streamed-as _ (offered-stopped (u .offered) (eqb-false _ _ z)) refl (refusal-some (s .refusal) (eqb-false _ _ z)) t) stop
+    where
+      refusal-none : (r : ℕ) → r ≡ 0 → none ≡ refusalOf r
+      refusal-none r z = sym (ap refusalOf {x = r} {y = 0} z)
+
+      refusal-some : (r : ℕ) → (r ≡ 0 → ⊥) → some r ≡ refusalOf r
+      refusal-some zero f = absurd (f refl)
+      refusal-some (suc r) f = refl

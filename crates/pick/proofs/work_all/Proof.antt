@@ -1,0 +1,91 @@
+-- `pick::work_all` meets its contract and ends. The invariant: what the turns have come to so far, for the query that the session was begun with.
+-- Assumes nothing.
+use Prim.Native.Nat.{ℕ, _≤_}
+use native.Mathlib.Omega.{arith}
+use mathlib.Core.Path.{_≡_, refl, sym, _∙_}
+use mathlib.Core.List.{List, []}
+use lib.ListN.{length}
+use borrow.Author.Needs.{needs}
+use Rattle.promise.specs.Promise.{Of}
+use Rattle.pick.specs.State.{Within, Underway}
+use Rattle.pick.specs.State.Turns.{begun-underway, turn-underway, turn-within, measure, turn-less, underway-few, underway-streamed}
+use Rattle.pick.proofs.work_all.Statement.{statement}
+use Rattle.pick.proofs.work_all.Tie as tie
+
+abbrev Inv-loop : tie.InvT-loop
+Inv-loop file input₀ out₀ text₀ state₀ input out text state =
+    ((length input ≡ length input₀) × ((length out ≡ length out₀) × (length text ≡ length text₀)))
+    × (Within state (length input) × ((b : List ℕ) → Of b [] (state₀ .session) → Underway b file state input))
+
+abbrev μ-loop : tie.MeasureT-loop
+μ-loop file input₀ out₀ text₀ state₀ input out text state = measure (length input₀) state input
+
+loop-holds : tie.Need-loop-holds Inv-loop μ-loop
+loop-holds c =
+    let a = c .before .before .before .args in (
+      (refl, (refl, refl)),
+      (record { forward = omega arith; inside = omega arith }, λ b o. begun-underway (a .file) (a .session) (a .input .now) o),
+    )
+
+goes-on-requires : tie.Need-goes-on-requires Inv-loop μ-loop
+goes-on-requires c κs = search needs
+
+turn-requires : tie.Need-turn-requires Inv-loop μ-loop
+turn-requires c κs =
+    let begun = c .before .before .before .before .before .before .before .before .before .pre .1 .1 in
+    let inv = c .before .before .before .before .before .loop .inv in
+    ((inv .1 .0, omega arith), (omega arith, underway-few (inv .1 .1 (begun .query) (begun .begun))))
+
+loop-less : tie.Need-loop-less Inv-loop μ-loop
+loop-less c =
+    let start = c .before .before .before .before .before .before .before .before .before .before .before .before .before .before .before .before in
+    let l = c .before .before .before .before .before .before .before .before .before .before .before .before .loop in
+    let u = l .inv .1 .1 (start .pre .1 .1 .query) (start .pre .1 .1 .begun) in
+    turn-less (l .state) (l .input) u (sym (c .before .before .before .before .before .before .before .before .before .before .before .goes-on .ensures) ∙ c .before .before .before .before .before .before .before .before .before .before .if1 .taken) (l .inv .1 .0)
+    (length (start .args .input .now)) (l .out) _ _ (omega arith) (omega arith) (omega arith) (c .before .before .before .before .before .before .turn .ensures)
+
+loop-again : tie.Need-loop-again Inv-loop μ-loop
+loop-again c =
+    let l = c .before .before .before .before .before .before .before .before .before .before .before .before .loop in
+    let more = sym (c .before .before .before .before .before .before .before .before .before .before .before .goes-on .ensures) ∙ c .before .before .before .before .before .before .before .before .before .before .if1 .taken in
+    let turned = c .before .before .before .before .before .before .turn .ensures in (
+      (omega arith, (omega arith, omega arith)),
+      (turn-within (l .state) (l .input) (l .out) _ _ turned,
+      λ b o. turn-underway (l .state) (l .input) (l .inv .1 .1 b o) more (l .inv .1 .0) (l .out) _ _ turned),
+    )
+
+same-length : tie.Need-same-length Inv-loop μ-loop
+same-length c = omega arith
+
+same-length-2 : tie.Need-same-length-2 Inv-loop μ-loop
+same-length-2 c = omega arith
+
+same-length-3 : tie.Need-same-length-3 Inv-loop μ-loop
+same-length-3 c = omega arith
+
+returns : tie.Need-returns Inv-loop μ-loop
+returns c =
+    let begun = c .before .before .before .before .before .before .pre .1 .1 in
+    let u = c .before .before .loop .inv .1 .1 in
+    let stop = sym (c .before .goes-on .ensures) ∙ c .if1 .left in
+    record {
+      few = underway-few (u (begun .query) (begun .begun));
+      streamed = λ t b o. underway-streamed (u b o) stop t;
+      failed = λ t. u (begun .query) (begun .begun) .failed t;
+    }
+
+pub work-all-spec : {M : Type 1} → statement M
+work-all-spec =
+    tie.close
+    (tie.spec
+    Inv-loop
+    μ-loop
+    loop-holds
+    goes-on-requires
+    turn-requires
+    loop-less
+    loop-again
+    same-length
+    same-length-2
+    same-length-3
+    returns)
