@@ -3,19 +3,21 @@
 --   lastLineOf q w      the last line for a stream that came to w
 --   textOf q w          all that is written for it: a line for each node listed, and the last line
 --   owed qs es          all that is written for the files `query.rec`, whose bytes are qs, and `events.rec`, whose bytes are es
---   Output text         the text went to standard output, every byte of it once and in order; or standard output took no more
---   Ran                 the program was run: the files were read, and what was written is what is owed for the bytes that the reads gave
+--   Failed              standard output did not take all that was handed to it
+--   Answered query text r     what is owed for the query is written but for what stands in the first r bytes of the text; or Failed
+--   Outcome             WHAT A RUN OF THE PROGRAM COMES TO: the files were read, and what is owed for the bytes that the reads gave was handed to standard
+--                       output, each byte once and in order, and taken; or Failed
 --
 -- Assumes nothing. NOT here: what a stream of bytes comes to (crate meaning, Offering), the lines' bytes (crate lines, Text), what "given", "handed" and
 -- "delivered" are (crate system, Marks).
--- pub mod Laws
+pub mod Laws
 use Prim.Native.Nat.{ℕ, _+_}
 use mathlib.Core.Logic.{_⊎_}
 use mathlib.Core.Path.{_≡_}
-use mathlib.Core.Bool.{Bool, true, false}
+use mathlib.Core.Bool.{false}
 use mathlib.Core.List.{List, [], _∷_, _++_}
 use mathlib.Core.Option.{Option, none, some}
-use lib.ListN.{length}
+use lib.ListN.{length, take}
 use Rattle.choice.specs.Pick.{pick}
 use Rattle.meaning.specs.Query.{Query}
 use Rattle.meaning.specs.Document.{finished}
@@ -57,9 +59,6 @@ pub record Failed : Type 0 where
   pub bytes : List ℕ
   pub handed : Handed bytes false
 
-abbrev pub Output : List ℕ → Type 0
-Output text = Delivered text ⊎ Failed
-
 -- "query.rec" and "events.rec"
 abbrev pub queryName : List ℕ
 queryName = 113 ∷ 117 ∷ 101 ∷ 114 ∷ 121 ∷ 46 ∷ 114 ∷ 101 ∷ 99 ∷ []
@@ -73,10 +72,23 @@ pub record Read (name bytes : List ℕ) : Type 0 where
   pub opened : Opened name file
   pub received : Received file bytes
 
--- events are read only for an admitted query
-pub record Ran : Type 0 where
+-- what is still to be written stands at the start of the text; events are read only for an admitted query
+pub record Lined (query text : List ℕ) (r : ℕ) : Type 0 where
+  pub events : List ℕ
+  pub events-read : answerTo query ≡ admitted → Read eventsName events
+  pub before : List ℕ
+  pub delivered : Delivered before
+  pub owed-so : before ++ take r text ≡ owed query events
+
+abbrev pub Answered : List ℕ → List ℕ → ℕ → Type 0
+Answered query text r = Lined query text r ⊎ Failed
+
+pub record Completed : Type 0 where
   pub query : List ℕ
   pub events : List ℕ
   pub query-read : Read queryName query
   pub events-read : answerTo query ≡ admitted → Read eventsName events
-  pub output : Output (owed query events)
+  pub delivered : Delivered (owed query events)
+
+abbrev pub Outcome : Type 0
+Outcome = Completed ⊎ Failed

@@ -11,7 +11,7 @@
 --   Turned file s i out s′ i′    the one or the other, by whether a whole record is there
 --   Underway b file s input      what the turns have come to, for the query bytes b, in the words of the meaning
 --   WorkedAll file session s     what all turns come to
---   Answered session l l′ r    the last line stands at the start of the text, or standard output took no more
+--   EventsAnswered session text r    all nodes are written and the last line stands at the start of the text, or standard output took no more
 --
 -- Assumes nothing. NOT here: what is owed (Program), what offering records comes to (Offered).
 pub mod Laws
@@ -32,7 +32,6 @@ use Rattle.query.specs.Decode.{decode}
 use Rattle.session.specs.declared.Session.{Session}
 use Rattle.promise.specs.Promise.{Of}
 use Rattle.blocks.specs.Fed.{Fed, fed}
-use Rattle.lines.specs.Put.{Put}
 use Rattle.lines.specs.Text.{linesOf, nodesIn}
 use Rattle.system.specs.declared.File.{File}
 use Rattle.system.specs.Marks.{Given, Handed, Received, Delivered}
@@ -117,11 +116,12 @@ pub record WorkedAll (file : File) (session : Session) (s : State) : Type 0 wher
   pub streamed : s .written ≡ true → (b : List ℕ) → Of b [] session → Streamed b file s
   pub failed : s .written ≡ false → Failed
 
-pub record Lined (b text text′ : List ℕ) (r : ℕ) : Type 0 where
+-- for the query bytes b: every node's line is delivered, and the last line stands at the start of the text
+pub record EventsLined (b text : List ℕ) (r : ℕ) : Type 0 where
   pub bytes : List ℕ
   pub events-read : Read eventsName bytes
   pub delivered : Delivered (linesOf (listed (decode b) (document (offeringAll (decode b) bytes .events))))
-  pub line : Put text 0 (lastLineOf (decode b) (offeringAll (decode b) bytes)) text′ r
+  pub line : take r text ≡ lastLineOf (decode b) (offeringAll (decode b) bytes)
 
-abbrev pub Answered : Session → List ℕ → List ℕ → ℕ → Type 0
-Answered session text text′ r = ((b : List ℕ) → Of b [] session → Lined b text text′ r) ⊎ Failed
+abbrev pub EventsAnswered : Session → List ℕ → ℕ → Type 0
+EventsAnswered session text r = ((b : List ℕ) → Of b [] session → EventsLined b text r) ⊎ Failed

@@ -12,9 +12,9 @@ ghost use Rattle.io.specs.Counts.{Counts};
 ghost use Rattle.lines.specs.Put.{Put};
 ghost use Rattle.lines.specs.Text.{linesOf, nodesIn};
 ghost use Rattle.promise.specs.Promise.{Of};
-ghost use Rattle.pick.specs.Program.{Ran};
+ghost use Rattle.pick.specs.Program.{Outcome, Answered};
 ghost use Rattle.pick.specs.Line.{queryLine, lastLine};
-ghost use Rattle.pick.specs.State.{Within, Begun, leftoverOf, goesOn, ReadMore, Worked, Turned, WorkedAll, Answered};
+ghost use Rattle.pick.specs.State.{Within, Begun, leftoverOf, goesOn, ReadMore, Worked, Turned, WorkedAll, EventsAnswered};
 use blocks::Ran;
 use query::QueryAnswer;
 use session::Finish;
@@ -219,7 +219,7 @@ fn work_all(file: File, session: Session, input: &mut [u8], out: &mut [u8], text
 // "a file that can't be opened counts as empty": every read of it fails. Where standard output takes no more, no last line is put.
 fn answer_events(session: Session, text: &mut [u8]) -> usize
     requires { ⌜ (90112 ≤ length (now text)) × Begun session ⌝ }
-    ensures { λ r. ⌜ Answered session (now (text .entry)) (now (text .exit)) r ⌝ }
+    ensures { λ r. ⌜ EventsAnswered session (now (text .exit)) r ⌝ }
     ensures { λ r. ⌜ Counts r (now (text .exit)) ⌝ }
 {
     let mut input = [0u8; 65536];
@@ -227,17 +227,33 @@ fn answer_events(session: Session, text: &mut [u8]) -> usize
     let file = system::open(b"events.rec");
     let state = work_all(file, session, &mut input, &mut out, text);
     system::close(file);
-    if !state.written {
-        return 0;
+    if state.written {
+        let end = state.session;
+        let finish = end.finish();
+        return last_line(finish, state.taken, state.refusal, text);
     }
-    let end = state.session;
-    let finish = end.finish();
-    last_line(finish, state.taken, state.refusal, text)
+    0
 }
 
-// The whole program: `main` can have no contract.
+// "The query is judged first"
+fn answer(query: &[u8], text: &mut [u8]) -> usize
+    requires { ⌜ 90112 ≤ length (now text) ⌝ }
+    ensures { λ r. ⌜ Answered (now (query .entry)) (now (text .exit)) r ⌝ }
+    ensures { λ r. ⌜ Counts r (now (text .exit)) ⌝ }
+{
+    let begun = session::begin(query);
+    let answer = begun.answer;
+    let refused = query_line(answer, text);
+    if 0 < refused {
+        return refused;
+    }
+    let session = begun.session;
+    answer_events(session, text)
+}
+
+// The whole program; `main` itself can have no contract.
 fn answer_files()
-    ensures { λ _. ⌜ Ran ⌝ }
+    ensures { λ _. ⌜ Outcome ⌝ }
 {
     // one record more than a query may have
     let mut query = [0u8; 264];
@@ -245,15 +261,7 @@ fn answer_files()
     let file = system::open(b"query.rec");
     let n = system::read_full(file, &mut query);
     system::close(file);
-    let begun = session::begin(&query[..n]);
-    let answer = begun.answer;
-    let refused = query_line(answer, &mut text);
-    if 0 < refused {
-        system::write(&text[..refused]);
-        return;
-    }
-    let session = begun.session;
-    let length = answer_events(session, &mut text);
+    let length = answer(&query[..n], &mut text);
     system::write(&text[..length]);
 }
 

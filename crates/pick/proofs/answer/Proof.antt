@@ -1,0 +1,62 @@
+-- `pick::answer` meets its contract. Assumes nothing.
+use mathlib.Core.Logic.{inl}
+use borrow.Author.Needs.{needs}
+use Rattle.pick.specs.Program.Laws.{refused-lined, silent-admitted, admitted-lined, begun-checked, begun-of, answered-by}
+use Rattle.pick.proofs.answer.Statement.{statement}
+use Rattle.pick.proofs.answer.Tie as tie
+
+begin-requires : tie.Need-begin-requires
+begin-requires c κs = search needs
+
+query-line-requires : tie.Need-query-line-requires
+query-line-requires c κs = search needs
+
+same-length : tie.Need-same-length
+same-length c = search needs
+
+returns : tie.Need-returns
+returns c =
+    let start = c .before .before .before .before .before .before .before .before in
+    let begin = c .before .before .before .before .before .begin in
+    let line = c .before .before .before .query-line .ensures in
+    let query = start .args .query .now in
+    let checked = begun-checked query (begin .result .answer) (begin .result .session) (begin .ensures) in
+    (inl (refused-lined query (begin .result .answer) checked _ _ _ (line .0) (search needs) (c .if1 .taken)), line .1)
+
+answer-events-requires : tie.Need-answer-events-requires
+answer-events-requires c κs =
+    let start = c .before .before .before .before .before .before .before .before .before .before in
+    let begin = c .before .before .before .before .before .before .before .begin in
+    let line = c .before .before .before .before .before .query-line .ensures in
+    let query = start .args .query .now in
+    let checked = begun-checked query (begin .result .answer) (begin .result .session) (begin .ensures) in
+    let so = silent-admitted query (begin .result .answer) checked _ _ _ (line .0) (c .before .before .if1 .left) in
+    (search needs, record { query = query; begun = begun-of query (λ i. c .before .before .before .before .before .before .before .before .before .shared-slice-known .given i .fits) _ _ (begin .ensures) so })
+
+same-length-2 : tie.Need-same-length-2
+same-length-2 c = search needs
+
+returns-2 : tie.Need-returns-2
+returns-2 c =
+    let start = c .before .before .before .before .before .before .before .before .before .before .before .before .before in
+    let begin = c .before .before .before .before .before .before .before .before .before .before .begin in
+    let line = c .before .before .before .before .before .before .before .before .query-line .ensures in
+    let query = start .args .query .now in
+    let checked = begun-checked query (begin .result .answer) (begin .result .session) (begin .ensures) in
+    let few = c .before .before .before .before .before .if1 .left in
+    let so = silent-admitted query (begin .result .answer) checked _ _ _ (line .0) few in
+    let of = begun-of query (λ i. c .before .before .before .before .before .before .before .before .before .before .before .before .shared-slice-known .given i .fits) _ _ (begin .ensures) so in
+    let events = c .before .before .answer-events .ensures in
+    (answered-by (λ l. admitted-lined query (begin .result .answer) checked _ _ _ (line .0) few _ _ (l query of)) (events .0), events .1)
+
+pub answer-spec : {M : Type 1} → statement M
+answer-spec =
+    tie.close
+    (tie.spec
+    begin-requires
+    query-line-requires
+    same-length
+    returns
+    answer-events-requires
+    same-length-2
+    returns-2)

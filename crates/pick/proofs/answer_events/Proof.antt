@@ -1,0 +1,68 @@
+-- `pick::answer_events` meets its contract. Assumes nothing.
+use native.Mathlib.Omega.{arith}
+use mathlib.Core.Logic.{inl, inr}
+use mathlib.Core.Path.{refl}
+use borrow.Author.Needs.{needs}
+use Rattle.lines.specs.PutLaws.{put-taken}
+use Rattle.pick.specs.Program.Laws.{streamed-lined}
+use Rattle.pick.proofs.answer_events.Statement.{statement}
+use Rattle.pick.proofs.answer_events.Tie as tie
+
+slice-aggregate-open : tie.Need-slice-aggregate-open
+slice-aggregate-open c = search needs
+
+open-requires : tie.Need-open-requires
+open-requires c κs = search needs
+
+slice-aggregate-work-all : tie.Need-slice-aggregate-work-all
+slice-aggregate-work-all c = search needs
+
+slice-aggregate-work-all-2 : tie.Need-slice-aggregate-work-all-2
+slice-aggregate-work-all-2 c = search needs
+
+work-all-requires : tie.Need-work-all-requires
+work-all-requires c κs = ((search needs, search needs), (search needs, c .before .before .before .before .before .before .pre .1))
+
+close-requires : tie.Need-close-requires
+close-requires c κs = search needs
+
+finish-requires : tie.Need-finish-requires
+finish-requires c κs = search needs
+
+last-line-requires : tie.Need-last-line-requires
+last-line-requires c κs = search needs
+
+same-length : tie.Need-same-length
+same-length c = search needs
+
+returns : tie.Need-returns
+returns c =
+    let work = c .before .before .before .before .before .before .before .before .before .before .before .before .work-all in
+    let line = c .before .before .last-line .ensures in
+    (inl
+    (λ b o.
+    streamed-lined (c .before .before .before .before .before .before .before .before .before .before .before .before .before .before .before .before .open .ensures) (work .ensures .streamed (c .before .before .before .before .before .before .if1 .taken) b o) _ (c .before .before .before .before .finish .ensures)
+    _ _ (put-taken (line .0) (search needs))), line .1)
+
+same-length-2 : tie.Need-same-length-2
+same-length-2 c = search needs
+
+returns-2 : tie.Need-returns-2
+returns-2 c = (inr (c .before .before .before .before .before .before .work-all .ensures .failed (c .if1 .left)), (omega arith, refl))
+
+pub answer-events-spec : {M : Type 1} → statement M
+answer-events-spec =
+    tie.close
+    (tie.spec
+    slice-aggregate-open
+    open-requires
+    slice-aggregate-work-all
+    slice-aggregate-work-all-2
+    work-all-requires
+    close-requires
+    finish-requires
+    last-line-requires
+    same-length
+    returns
+    same-length-2
+    returns-2)

@@ -1,0 +1,177 @@
+-- What is owed, by what the calls answered.
+--
+--   last-line-owed        the last line by finish's answer, the events taken and the refusal is the one that is owed
+--   streamed-lined        and it is put for a stream that was worked on whole
+--   refused-lined, admitted-lined      what the query's answer leaves to be written
+--   silent-admitted       only an admitted query is answered by no line
+--   begun-checked         begin's answer is that of the query check
+--   begun-of              begin's session for an admitted query is one that calls reach
+--   outcome-written       the rest is written
+--
+-- Assumes nothing.
+use Prim.Native.Nat.{ℕ, zero, suc, _+_, _≤_, _<_}
+use native.Mathlib.Omega.{arith}
+use mathlib.Core.Logic.{_⊎_, inl, inr}
+use mathlib.Core.Path.{_≡_, refl, sym, ap, _∙_, subst}
+use mathlib.Core.Bool.{Bool, true, false, not, cond}
+use mathlib.Core.List.{List, [], _∷_, _++_}
+use mathlib.Core.Option.{Option, none, some}
+use lib.ListN.{length, take, length-append}
+use borrow.Author.Tests.{lt-ltb}
+use Rattle.choice.specs.Pick.{pick}
+use Rattle.meaning.specs.Query.{Query}
+use Rattle.meaning.specs.Document.{count, finished}
+use Rattle.meaning.specs.Stream.{Event, document}
+use Rattle.meaning.specs.Standing.{listed}
+use Rattle.meaning.specs.Offering.{offeringAll}
+use Rattle.query.specs.declared.QueryAnswer.{QueryAnswer}
+use Rattle.query.specs.declared.QueryAnswer.the-variants.{Admitted, BadLength, BadStep}
+use Rattle.query.specs.Answer.{Answer, admitted, said, answerTo}
+use Rattle.query.specs.Decode.{decode, Bytes}
+use Rattle.session.specs.declared.Session.{Session}
+use Rattle.session.specs.declared.Finish.{Finish}
+use Rattle.session.specs.declared.Finish.the-variants.{Refused, Ended}
+use Rattle.session.specs.Begin.{Begun, begun}
+use Rattle.session.specs.Event.{finish}
+use Rattle.columns.specs.Right.{owedFinish, finish-right}
+use Rattle.promise.specs.Promise.{Of, sessionAfter, begin-of}
+use Rattle.lines.specs.Put.{Put}
+use Rattle.lines.specs.PutLaws.{put-taken}
+use Rattle.lines.specs.Text.{linesOf, endLine, refusedAtLine, refusedLine}
+use Rattle.system.specs.declared.File.{File}
+use Rattle.system.specs.Marks.{Opened, Given, Handed, received, nothing-yet, Delivered, delivered, none-yet}
+use Rattle.pick.specs.declared.State.{State}
+use Rattle.pick.specs.Line.{queryLine, finishLine, lastLine}
+use Rattle.pick.specs.State.{refusalOf, Streamed, EventsLined}
+use Rattle.pick.specs.Program.{finishLineOf, lastLineBy, lastLineOf, owedBy, owed, Failed, queryName, eventsName, Lined, Answered, Completed, Outcome}
+
+-- the last line
+
+finish-owed : (q : Query) (es : List Event) → finishLine (owedFinish q (document es)) (length es) ≡ finishLineOf q es
+unfolding owedFinish finishLineOf
+finish-owed q es = by (finished (document es))
+  where
+    by :
+        (b : Bool) →
+        finishLine (pick (not b) (Refused 8) (Ended (count (document es)) (length (listed q (document es))))) (length es)
+        ≡ pick b (endLine (length (listed q (document es)))) (refusedAtLine 8 (length es))
+    by true = unfold pick in refl
+    by false = unfold pick in refl
+
+pub last-line-owed :
+    {b : List ℕ} {es : List Event} {s : Session} → Of b es s → (f : Finish) → f ≡ finish s → (taken r : ℕ) → taken ≡ length es →
+    lastLine f taken r ≡ lastLineBy (refusalOf r) (decode b) es
+unfolding lastLineBy refusalOf sessionAfter
+last-line-owed {b} {es} {s} o f e taken zero t =
+    ap (λ (n : ℕ). finishLine f n) t
+    ∙ ap (λ (g : Finish). finishLine g (length es)) (e ∙ ap finish (o .is) ∙ finish-right (decode b) (document es))
+    ∙ finish-owed (decode b) es
+last-line-owed o f e taken (suc r) t =
+    ap (λ (x : Bool). cond x (refusedAtLine (suc r) (taken + 1)) (finishLine f taken)) (lt-ltb 0 (suc r) (omega arith))
+    ∙ ap (λ (n : ℕ). refusedAtLine (suc r) (n + 1)) t
+
+-- the last line for a stream that was worked on whole
+pub streamed-lined :
+    {b : List ℕ} {file : File} {s : State} → Opened eventsName file → (st : Streamed b file s) → (f : Finish) → f ≡ finish (s .session) → (text : List ℕ) (r : ℕ) →
+    take r text ≡ lastLine f (s .taken) (s .refusal) → EventsLined b text r
+streamed-lined {b} {file} {s} op st f e text r line =
+    record {
+      bytes = st .bytes;
+      events-read = record { file = file; opened = op; received = st .received };
+      delivered = st .delivered;
+      line =
+          line
+          ∙ last-line-owed (st .reached) f e (s .taken) (s .refusal) (st .counted)
+          ∙ ap (λ (x : Option ℕ). lastLineBy x (decode b) (offeringAll (decode b) (st .bytes) .events)) (st .refusal-so);
+    }
+
+-- the query's answer
+
+query-owed : (a : QueryAnswer) (qs es : List ℕ) → 0 < length (queryLine a) → queryLine a ≡ owedBy (said a) qs es
+unfolding owedBy said
+query-owed Admitted qs es h = absurd (omega arith)
+query-owed BadLength qs es h = refl
+query-owed (BadStep k) qs es h = refl
+
+refused-long : (n : ℕ) → 0 < length (refusedLine n)
+unfolding refusedLine
+refused-long n = omega arith
+
+refused-at-long : (n k : ℕ) → 0 < length (refusedAtLine n k)
+unfolding refusedAtLine
+refused-at-long n k = omega arith
+
+query-silent : (a : QueryAnswer) → length (queryLine a) ≡ 0 → a ≡ Admitted
+query-silent Admitted h = refl
+query-silent BadLength h = absurd (omega (arith, refused-long 9))
+query-silent (BadStep k) h = absurd (omega (arith, refused-at-long 10 k))
+
+not-admitted : (a : QueryAnswer) → 0 < length (queryLine a) → said a ≡ admitted → ⊥
+unfolding said
+not-admitted Admitted h e = omega arith
+not-admitted BadLength h e = let z : _≡_ {A = ℕ} 0 1 = cc in omega arith
+not-admitted (BadStep k) h e = let z : _≡_ {A = ℕ} 0 1 = cc in omega arith
+
+module _ (query : List ℕ) (a : QueryAnswer) (checked : said a ≡ answerTo query) where
+  -- a refused query: its line is all that is owed
+  pub refused-lined : (text text′ : List ℕ) (r : ℕ) → Put text 0 (queryLine a) text′ r → r ≤ length text → 0 < r → Lined query text′ r
+  refused-lined text text′ r p fits put =
+      let long : 0 < length (queryLine a) = omega (arith, p .end) in
+      record {
+        events = [];
+        events-read = λ e. absurd (not-admitted a long (checked ∙ e));
+        before = [];
+        delivered = none-yet;
+        owed-so = put-taken p fits ∙ query-owed a query [] long ∙ ap (λ (x : Answer). owedBy x query []) checked;
+      }
+
+  module _ (text text′ : List ℕ) (r : ℕ) (p : Put text 0 (queryLine a) text′ r) (none-put : r ≤ 0) where
+    pub silent-admitted : answerTo query ≡ admitted
+    unfolding said
+    silent-admitted = sym checked ∙ ap said (query-silent a (omega (arith, p .end)))
+
+    -- an admitted query: the events' lines
+    pub admitted-lined : (t : List ℕ) (k : ℕ) → EventsLined query t k → Lined query t k
+    unfolding owedBy
+    admitted-lined t k l =
+        record {
+          events = l .bytes;
+          events-read = λ e. l .events-read;
+          before = linesOf (listed (decode query) (document (offeringAll (decode query) (l .bytes) .events)));
+          delivered = l .delivered;
+          owed-so =
+              ap (λ (x : List ℕ). linesOf (listed (decode query) (document (offeringAll (decode query) (l .bytes) .events))) ++ x) (l .line)
+              ∙ ap (λ (x : Answer). owedBy x query (l .bytes)) (sym silent-admitted);
+        }
+
+pub begun-checked :
+    (query : List ℕ) (a : QueryAnswer) (session : Session) → _≡_ {A = Begun} (record { answer = said a; session = session }) (begun query) →
+    said a ≡ answerTo query
+unfolding begun
+begun-checked query a session e = ap (λ (x : Begun). x .answer) e
+
+pub begun-of :
+    (query : List ℕ) → Bytes query → (a : QueryAnswer) (session : Session) →
+    _≡_ {A = Begun} (record { answer = said a; session = session }) (begun query) → answerTo query ≡ admitted → Of query [] session
+begun-of query bytes a session e h = subst (Of query []) (sym (ap (λ (x : Begun). x .session) e)) (begin-of query bytes h)
+
+pub answered-by : {A B C : Type 0} → (A → B) → A ⊎ C → B ⊎ C
+answered-by f (inl x) = inl (f x)
+answered-by f (inr y) = inr y
+
+-- the end
+
+pub outcome-written :
+    (query text : List ℕ) (r : ℕ) (file : File) → Opened queryName file → Given file query → (taken : Bool) → Handed (take r text) taken →
+    Answered query text r → Outcome
+outcome-written query text r file o g true h (inl l) =
+    inl
+    (record {
+      query = query;
+      events = l .events;
+      query-read = record { file = file; opened = o; received = received nothing-yet query g };
+      events-read = l .events-read;
+      delivered = subst Delivered (l .owed-so) (delivered (l .delivered) (take r text) h);
+    })
+outcome-written query text r file o g false h (inl l) = inr (record { bytes = take r text; handed = h })
+outcome-written query text r file o g taken h (inr f) = inr f
