@@ -88,7 +88,7 @@ pub run-one : (s : Session) (es out : List ℕ) (r r′ : Ran) (o o′ : List �
 run-one s es out r r′ o o′ g g′ =
     let e = g ∙ sym g′ in (
       ran-same (r .session) (r′ .session) (r .taken) (r′ .taken) (r .listed) (r′ .listed) (r .refusal) (r′ .refusal)
-      (ap (λ (f : Fed). f .session) e) (ap (λ (f : Fed). f .taken) e) (ap (λ (f : Fed). f .listed) e) (ap (λ (f : Fed). f .refusal) e),
+          (ap (λ (f : Fed). f .session) e) (ap (λ (f : Fed). f .taken) e) (ap (λ (f : Fed). f .listed) e) (ap (λ (f : Fed). f .refusal) e),
       ap (λ (f : Fed). f .out) e,
     )
 
