@@ -127,10 +127,13 @@ pub record Promised (b : List ℕ) (us : List Use) (rs : List Reply) (s : Sessio
   pub rest-same :
       (bytes out out′ : List ℕ) (r : Step) (k : ℕ) → EventGives s bytes out r out′ → r .answer ≡ Taken k → drop (4 * k) out′ ≡ drop (4 * k) out
 
--- the whole records at the start of es are offered one after the other, each with a buffer of 516 bytes or more
-pub data Offered : List ℕ → List Use → Type 0 where
-  no-more : {es : List ℕ} → Offered es []
-  one-more : {es out : List ℕ} {us : List Use} → 8 ≤ length es → 516 ≤ length out → Offered (drop 8 es) us → Offered es (offer (take 8 es) out ∷ us)
+-- the whole records at the start of es are offered one after the other, the first with the buffer out, each next with what the records of the lists
+-- before it have left of that, and none with less than 516 bytes
+pub data Offered : (es out : List ℕ) → List Use → List Reply → Type 0 where
+  no-more : {es out : List ℕ} → Offered es out [] []
+  one-more :
+      {es out out′ : List ℕ} {r : Step} {us : List Use} {rs : List Reply} → 8 ≤ length es → 516 ≤ length out →
+      Offered (drop 8 es) (drop (length (recordsBy (r .answer) out′)) out′) us rs → Offered es out (offer (take 8 es) out ∷ us) (stepped r out′ ∷ rs)
 
 -- so many are taken, and then one is refused with this number; 0 for none
 pub data Answered : (taken refusal : ℕ) → List Answer → Type 0 where
@@ -143,7 +146,7 @@ pub record Block (b : List ℕ) (us : List Use) (rs : List Reply) (es out : List
   pub offers : List Use
   pub replies : List Reply
   pub reached : Reached b (us ++ offers) (rs ++ replies) (r .session)
-  pub offered : Offered es offers
+  pub offered : Offered es out offers replies
   pub answered : Answered (r .taken) (r .refusal) (map answerOf replies)
   pub listed : r .listed ≡ length (nodesOf replies)
   pub written : out′ ≡ recordsOf (nodesOf replies) ++ drop (4 * r .listed) out
@@ -155,6 +158,8 @@ pub record Library : Type 0 where
   pub blocks :
       {b : List ℕ} {us : List Use} {rs : List Reply} {s : Session} → Reached b us rs s →
       (es out : List ℕ) (r : Ran) (out′ : List ℕ) → RunGives s es out r out′ → Block b us rs es out r out′
-  -- every sequence of uses has replies, and one list of them, with one session after it
-  pub some : (s : Session) (us : List Use) → (rs : List Reply) × (t : Session) × Played s us rs t
-  pub one : {s t t′ : Session} {us : List Use} {rs rs′ : List Reply} → Played s us rs t → Played s us rs′ t′ → (rs ≡ rs′) × (t ≡ t′)
+  -- every byte string as query and every sequence of uses have replies, and only these
+  pub some : (b : List ℕ) (us : List Use) → (r : Begun) × (rs : List Reply) × (t : Session) × BeginGives b r × Played (r .session) us rs t
+  pub one :
+      (b : List ℕ) (r r′ : Begun) {us : List Use} {rs rs′ : List Reply} {t t′ : Session} → BeginGives b r → BeginGives b r′ →
+      Played (r .session) us rs t → Played (r′ .session) us rs′ t′ → (r ≡ r′) × (rs ≡ rs′) × (t ≡ t′)

@@ -21,7 +21,7 @@ use Rattle.meaning.specs.Answer as meaning
 use Rattle.meaning.specs.Answer.{Call, answer, handedBy, handedOut}
 use Rattle.query.specs.Decode.{decode}
 use Rattle.records.specs.Write.{recordsOf, nodesIn}
-use Rattle.records.specs.Write.Laws.{records-append, length-nodes}
+use Rattle.records.specs.Write.Laws.{length-records, records-append, length-nodes}
 use Rattle.session.specs.declared.Session.{Session}
 use Rattle.session.specs.declared.Step.{Step}
 use Rattle.session.specs.declared.Answer.{Answer}
@@ -41,7 +41,7 @@ record Singly (s : Session) (n : ℕ) (es out : List ℕ) (f : Fed) : Type 0 whe
   offers : List Use
   replies : List Reply
   played : Played s offers replies (f .session)
-  offered : Offered es offers
+  offered : Offered es out offers replies
   answered : Answered (f .taken) (f .refusal) (map answerOf replies)
   listed : f .listed ≡ length (nodesOf replies)
   written : f .out ≡ recordsOf (nodesOf replies) ++ drop (4 * f .listed) out
@@ -74,7 +74,7 @@ module _ {b : List ℕ} {fs : List Event} {s : Session} (o : Of b fs s) (n : ℕ
           offers = offer (take 8 es) out ∷ [];
           replies = stepped (record { answer = Refused x; session = t }) out′ ∷ [];
           played = by-event {r = record { answer = Refused x; session = t }} g unused;
-          offered = one-more whole wide no-more;
+          offered = one-more {r = record { answer = Refused x; session = t }} whole wide no-more;
           answered = then-refused some;
           listed = refl;
           written = same .1;
@@ -101,6 +101,10 @@ module _ {b : List ℕ} {fs : List Event} {s : Session} (o : Of b fs s) (n : ℕ
           told-records (Taken k) (answer (decode b) fs (Call.event (take 8 es) (length out))) out out′ (e .answered) (e .written)
           ∙ ap (λ (a : meaning.Answer). recordsOf (handedBy a)) (sym (e .answered))
 
+      first-long : length (recordsBy (Taken k) out′) ≡ 4 * k
+      unfolding recordsBy
+      first-long = ap length first ∙ length-records ns ∙ ap (λ (m : ℕ). 4 * m) (length-nodes k out′)
+
       taken-singly : Singly s (suc n) es out (andThen (one (Taken k) t out′) f)
       unfolding one andThen answerOf told handedOut handedBy
       taken-singly =
@@ -110,7 +114,9 @@ module _ {b : List ℕ} {fs : List Event} {s : Session} (o : Of b fs s) (n : ℕ
             offers = offer (take 8 es) out ∷ rest .offers;
             replies = stepped r out′ ∷ rest .replies;
             played = by-event {r = r} g (rest .played);
-            offered = one-more whole wide (rest .offered);
+            offered =
+                one-more {r = r} whole wide
+                (subst (λ (m : ℕ). Offered (drop 8 es) (drop m out′) (rest .offers) (rest .replies)) (sym first-long) (rest .offered));
             answered = subst (λ (m : ℕ). Answered m (f .refusal) (meaning.taken ns ∷ map answerOf (rest .replies))) (omega arith) (one-taken (rest .answered));
             listed = omega (arith, rest .listed, length-append ns (nodesOf (rest .replies)), length-nodes k out′);
             written =

@@ -4,8 +4,8 @@
 --
 -- Assumes nothing.
 use Rattle.promise.specs.Theorem.{Library}
-use Rattle.promise.specs.Theorem.Replies.{begins, promised, played-some, played-one}
+use Rattle.promise.specs.Theorem.Replies.{begins, promised, uses-some, uses-one}
 use Rattle.promise.specs.Theorem.Blocks.{block}
 
 pub library : Library
-library = record { begins = begins; keeps = λ x. promised x; blocks = λ x. block x; some = played-some; one = λ p q. played-one p q }
+library = record { begins = begins; keeps = λ x. promised x; blocks = λ x. block x; some = uses-some; one = λ b r r′ g g′ p p′. uses-one b r r′ g g′ p p′ }

@@ -1,4 +1,4 @@
--- The proof of the promise of the library.
+-- The proof of what is promised of begin, event and finish.
 --
 --   Kept b es us rs t       what a play from the session after es keeps: t is the session after the events accepted by then, the answers are
 --                           the meaning's, and the records found are those of the nodes handed out
@@ -6,8 +6,7 @@
 --   reached-kept            so does every play from begin on
 --   promised                THE REPLIES AND THE SESSION are as promised
 --   begins                  so is begin's result
---   played-some, played-one       every sequence of uses has one list of replies
---   library                 the theorem
+--   uses-some, uses-one     every byte string as query and every sequence of uses have replies, and only these
 --
 -- Assumes nothing.
 use Prim.Native.Nat.{ℕ, _+_, _*_}
@@ -47,6 +46,7 @@ use Rattle.session.specs.declared.Finish.the-variants as finish-cases
 use Rattle.session.specs.declared.Answer.{Answer}
 use Rattle.session.specs.declared.Answer.the-variants.{Refused, Taken}
 use Rattle.session.specs.Begin.{fresh, Begun, sessionFor, begun, BeginGives}
+use Rattle.session.specs.Begin.Laws.{begin-one}
 use Rattle.session.specs.Event as events
 use Rattle.session.specs.Event.{EventGives, FinishGives}
 use Rattle.session.specs.Event.Laws.{event-one, finish-one}
@@ -197,7 +197,7 @@ begins b r g =
     }
 
 -- one list of replies
-pub played-some : (s : Session) (us : List Use) → (rs : List Reply) × (t : Session) × Played s us rs t
+played-some : (s : Session) (us : List Use) → (rs : List Reply) × (t : Session) × Played s us rs t
 played-some s [] = ([], s, unused)
 played-some s (offer bytes out ∷ us) =
     let d = events.event s bytes out in
@@ -206,7 +206,7 @@ played-some s (offer bytes out ∷ us) =
     (stepped r (d .out) ∷ p .0, p .1, by-event {r = r} refl (p .2))
 played-some s (ask ∷ us) = let p = played-some s us in (finish (events.finish s) ∷ p .0, p .1, by-finish refl (p .2))
 
-pub played-one : {s t t′ : Session} {us : List Use} {rs rs′ : List Reply} → Played s us rs t → Played s us rs′ t′ → (rs ≡ rs′) × (t ≡ t′)
+played-one : {s t t′ : Session} {us : List Use} {rs rs′ : List Reply} → Played s us rs t → Played s us rs′ t′ → (rs ≡ rs′) × (t ≡ t′)
 played-one unused unused = (refl, refl)
 played-one {s} {t} {t′} (by-event {bytes} {out} {out′} {r} {us} g p) (by-event {out′ = out″} {r = r′} {rs = rs′} g′ p′) =
     let e = event-one s bytes out r r′ out′ out″ g g′ in
@@ -214,3 +214,32 @@ played-one {s} {t} {t′} (by-event {bytes} {out} {out′} {r} {us} g p) (by-eve
     (ap₂ _∷_ (ap₂ stepped (e .0) (e .1)) (k .0), k .1)
 played-one {s} (by-finish {f} g p) (by-finish {f = f′} g′ p′) =
     let k = played-one p p′ in (ap₂ _∷_ (ap finish (finish-one s f f′ g g′)) (k .0), k .1)
+
+-- an answer that is owed is one that the code's enum has
+owed-said : (b : List ℕ) (a : checked.Answer) → Owed b a → (x : QueryAnswer) × (said x ≡ a)
+unfolding said
+owed-said b checked.admitted o = (Admitted, refl)
+owed-said b (checked.refused n) o = (BadLength, ap checked.refused (sym (o .0)))
+owed-said b (checked.refusedAt n k) o = (BadStep k, ap (λ (m : ℕ). checked.refusedAt m k) (sym (o .0)))
+
+begin-some : (b : List ℕ) → (r : given.Begun) × BeginGives b r
+unfolding begun
+begin-some b =
+    let x = owed-said b (checked.answerTo b) (owed-given b) in (
+      record { answer = x .0; session = sessionFor (checked.answerTo b) b },
+      ap (λ (a : checked.Answer). record { answer = a; session = sessionFor (checked.answerTo b) b }) (x .1),
+    )
+
+pub uses-some : (b : List ℕ) (us : List Use) → (r : given.Begun) × (rs : List Reply) × (t : Session) × BeginGives b r × Played (r .session) us rs t
+uses-some b us =
+    let g = begin-some b in
+    let p = played-some (g .0 .session) us in
+    (g .0, p .0, p .1, g .1, p .2)
+
+pub uses-one :
+    (b : List ℕ) (r r′ : given.Begun) {us : List Use} {rs rs′ : List Reply} {t t′ : Session} → BeginGives b r → BeginGives b r′ →
+    Played (r .session) us rs t → Played (r′ .session) us rs′ t′ → (r ≡ r′) × (rs ≡ rs′) × (t ≡ t′)
+uses-one b r r′ {us} {rs} {rs′} {t} {t′} g g′ p p′ =
+    let e = begin-one b r r′ g g′ in
+    let k = played-one {t′ = t′} p (subst (λ (x : given.Begun). Played (x .session) us rs′ t′) (sym e) p′) in
+    (e, k .0, k .1)
