@@ -1,7 +1,7 @@
 // A block of events: the session taken apart once, the same as single events one after the other.
 ghost use mathlib.Core.Path.{_≡_};
 ghost use mathlib.Core.Bool.{true};
-ghost use Prim.Native.Nat.{_*_, _/_, _≤_, _<_};
+ghost use Prim.Native.Nat.{_*_, _≤_, _<_};
 ghost use lib.ListN.{length};
 ghost use Rattle.blocks.specs.Step.{stepOpen, stepClose, step};
 ghost use Rattle.blocks.specs.Fed.{RunGives, goesOn, stepsOn, Advanced};

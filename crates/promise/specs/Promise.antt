@@ -6,27 +6,28 @@
 --   begin-of                   the session that begin gives beside an admitted query is the one after no events
 --   event-given, event-of      an event gives the meaning's answer, and leads to the session after the events then accepted
 --   finish-given               finish gives the meaning's answer
---   waiting-held, counts-are   what a session's waiting nodes and counts are
+--   waiting-held, opened-is, handed-is, count-is      what a session's waiting nodes and counts are
+--   begin-answer, ruled        begin's answer is the definition's; what an admitted query gives the theorems
 --
 -- Assumes that the bytes of a query are bytes. NOT promised: anything but safety of a session value that no calls reach.
-use Prim.Native.Nat.{ℕ, _+_, _*_, _≤_}
+use Prim.Native.Nat.{ℕ, _*_, _≤_}
 use native.Mathlib.Omega.{arith}
-use mathlib.Core.Path.{_≡_, refl, sym, ap, ap₂, _∙_, subst}
+use mathlib.Core.Path.{_≡_, refl, sym, ap, _∙_, subst}
 use mathlib.Core.Bool.{Bool, true, false, not}
-use mathlib.Core.List.{List, [], _∷_, _++_, map}
+use mathlib.Core.List.{List, [], map}
 use mathlib.Core.Option.{Option, none, some}
 use lib.Dec.{T}
-use lib.ListN.{length, getD, take, drop, length-map}
+use lib.ListN.{length, take, drop, length-map}
 use lib.Seq.{take-at}
 use Rattle.choice.specs.Pick.{pick}
 use Rattle.meaning.specs.Query.{Query, admits}
-use Rattle.meaning.specs.Document.{Doc, blank, count, finished}
+use Rattle.meaning.specs.Document.{count, finished}
 use Rattle.meaning.specs.Standing.{listed, held}
 use Rattle.meaning.specs.Demands.{counts-add-up}
 use Rattle.meaning.specs.Stream.{Event, run, document, always, Stream}
 use Rattle.meaning.specs.Record.{eventOf}
 use Rattle.meaning.specs.Answer as meaning
-use Rattle.meaning.specs.Answer.{Call, eventRefusals, refusals, lowestOr, lowest, actIf, callEvents, yield, answerIf, answer, afterIf, after, accepted, handedBy}
+use Rattle.meaning.specs.Answer.{Call, eventRefusals, refusals, lowestOr, lowest, callEvents, yield, answerIf, answer, afterIf, after, accepted, handedBy}
 use Rattle.meaning.specs.Answer.Laws.{act-document, after-stream}
 use Rattle.meaning.specs.Answer.Bounds.{Bounded, after-bounded, accepted-within, handed-within}
 use Rattle.query.specs.declared.QueryAnswer.the-variants.{Admitted}

@@ -10,7 +10,6 @@ use Prim.Native.Nat.{ℕ, zero, suc, _+_, _-_, _*_, _/_, _≤_, _<_}
 use native.Mathlib.Omega.{arith}
 use mathlib.Core.Logic.{_⊎_, inl, inr}
 use mathlib.Core.Path.{_≡_, refl, sym, ap, ap₂, _∙_, subst}
-use mathlib.Core.Bool.{Bool, true, false}
 use mathlib.Core.List.{List, [], _∷_, _++_, map, append-assoc}
 use lib.Dec.{ltb}
 use lib.ListN.{length, take, drop, length-append, length-drop}
@@ -34,7 +33,8 @@ use Rattle.blocks.specs.Fed.Laws.{pick-known}
 use Rattle.blocks.specs.Step.Laws.{event-single}
 use Rattle.promise.specs.Promise.{Of, event-given, event-of}
 use Rattle.promise.specs.Theorem as theorem
-use Rattle.promise.specs.Theorem.{Use, offer, Reply, stepped, Played, unused, by-event, by-finish, Reached, answerOf, recordsBy, nodesOf, Offered, no-more, one-more, Answered, all-taken, then-refused, one-taken}
+use Rattle.promise.specs.Theorem.{Use, offer, Reply, stepped, Played, unused, by-event, by-finish, Reached, answerOf, recordsBy, nodesOf}
+use Rattle.promise.specs.Theorem.{Offered, no-more, one-more, Answered, all-taken, then-refused, one-taken}
 use Rattle.promise.specs.Theorem.Replies.{told-records, reached-kept, event-refused, event-taken}
 
 record Singly (s : Session) (n : ℕ) (es out : List ℕ) (f : Fed) : Type 0 where
@@ -81,7 +81,8 @@ module _ {b : List ℕ} {fs : List Event} {s : Session} (o : Of b fs s) (n : ℕ
           stops = λ z. absurd (omega arith);
         }
 
-    module _ (k : ℕ) (g : EventGives s (take 8 es) out (record { answer = Taken k; session = t }) out′) (f : Fed) (rest : Singly t n (drop 8 es) (drop (4 * k) out′) f) where
+    module _ (k : ℕ) (g : EventGives s (take 8 es) out (record { answer = Taken k; session = t }) out′) (f : Fed)
+        (rest : Singly t n (drop 8 es) (drop (4 * k) out′) f) where
       abbrev r : Step
       r = record { answer = Taken k; session = t }
 

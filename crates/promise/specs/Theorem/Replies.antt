@@ -14,11 +14,9 @@ use native.Mathlib.Omega.{arith}
 use mathlib.Core.Logic.{_↔_}
 use mathlib.Core.Path.{_≡_, refl, sym, ap, ap₂, _∙_, subst}
 use mathlib.Core.List.{List, [], _∷_, _++_, map, flatMap, List·Memᴰ}
-use lib.Dec.{T}
 use lib.ListN.{length, take, drop}
 use lib.Seq.{take-at, drop-at}
 use Rattle.meaning.specs.Query.{Query}
-use Rattle.meaning.specs.Document.{finished}
 use Rattle.meaning.specs.Selection.{sure-reading}
 use Rattle.meaning.specs.Explicit.{Selected}
 use Rattle.meaning.specs.Explicit.Demands.{ListedBy, HeldBy, listed-exactly, held-exactly, ruled-out-exactly}
@@ -48,12 +46,14 @@ use Rattle.session.specs.declared.Answer.the-variants.{Refused, Taken}
 use Rattle.session.specs.Begin.{fresh, Begun, sessionFor, begun, BeginGives}
 use Rattle.session.specs.Begin.Laws.{begin-one}
 use Rattle.session.specs.Event as events
-use Rattle.session.specs.Event.{EventGives, FinishGives}
+use Rattle.session.specs.Event.{EventGives}
 use Rattle.session.specs.Event.Laws.{event-one, finish-one}
 use Rattle.session.specs.Told.{told, ended}
 use Rattle.columns.specs.Hand.{buffer}
-use Rattle.promise.specs.Promise.{sessionAfter, Of, Given, buffer-none, begin-answer, begin-of, ruled, event-given, event-of, finish-given, waiting-held, opened-is, handed-is, count-is}
-use Rattle.promise.specs.Theorem.{Use, offer, ask, Reply, stepped, finish, Played, unused, by-event, by-finish, Reached, callOf, answerOf, recordsBy, recordsIn, streamOf, nodesOf, waiting, Begins, Promised, Library}
+use Rattle.promise.specs.Promise.{sessionAfter, Of, Given, buffer-none, begin-answer, begin-of, ruled, event-given, event-of, finish-given}
+use Rattle.promise.specs.Promise.{waiting-held, opened-is, handed-is, count-is}
+use Rattle.promise.specs.Theorem.{Use, offer, ask, Reply, stepped, finish, Played, unused, by-event, by-finish, Reached}
+use Rattle.promise.specs.Theorem.{callOf, answerOf, recordsBy, recordsIn, streamOf, nodesOf, Begins, Promised}
 
 -- a refused event writes nothing
 refused-none : (m : meaning.Answer) (n : ℕ) → meaning.refused n ≡ m → handedBy m ≡ []
