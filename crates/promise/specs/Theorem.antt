@@ -4,10 +4,11 @@
 --   Played s us rs t        the uses us of s got the replies rs and led to t: of each reply nothing is known but its entry point's promise
 --   Reached b us rs s       begin admitted the bytes b, and its session was used so: s is a session that calls reach
 --   callOf, answerOf        a use as a call of the meaning; a reply as document 01's answer (`told`, `ended`)
---   recordsIn r             the bytes of the list records at the start of the buffer that a reply left
+--   recordsIn r             the bytes of the list records at the start of the buffer that a reply left;  recordsBy a out: by an event's answer
 --   streamOf b us           the accepted events;  nodesOf rs: the nodes that the list records in the buffers name;  waiting s: the nodes waiting in s
 --   Begins b r              what is promised of begin's result r for the bytes b
---   Promised b us rs s      what is promised of the replies rs and of the session s
+--   Promised b us rs s      what is promised of the replies rs and of the session s; a first part of the uses is one too, so after each of them
+--   Offered, Answered       how the records of a block are offered and answered
 --   Block b us rs .. r out′ what is promised of a block: its result r and the buffer out′ are what single offers come to
 --   Library                 the theorem; it is proved in Theorem.Proof, by Theorem.Replies and Theorem.Blocks
 --
