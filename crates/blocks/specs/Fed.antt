@@ -7,6 +7,8 @@
 --   andThen r f              r, and then f with the part of the buffer that r left
 --   follow a s out next      one event, and then what comes next; a refused event is the last. followed d next: the same of d
 --   fed n s es out           the first n records of es, one event after the other
+--   RunGives s es out r out′     THE PROMISE of `run`: its result r and the buffer out′ on return are what the whole records of es come to
+--   run-one                  two results that it allows are equal, and so are the buffers on return
 --   resumed n es r           r, and then what is left of the first n records of es
 --   Single r                 what holds of one event that came to r
 --   Underway s es out r      r is a first part of the events of es; Advanced s es out r: and not an empty one
@@ -19,7 +21,7 @@
 pub mod Laws
 pub mod Calls
 use Prim.Native.Nat.{ℕ, zero, suc, _+_, _-_, _*_, _/_, _≤_, _<_}
-use mathlib.Core.Path.{_≡_}
+use mathlib.Core.Path.{_≡_, sym, ap, _∙_}
 use mathlib.Core.Bool.{Bool, false}
 use mathlib.Core.List.{List, _++_}
 use lib.Dec.{eqb, leb, ltb}
@@ -29,6 +31,7 @@ use Rattle.session.specs.declared.Session.{Session}
 use Rattle.session.specs.declared.Answer.{Answer}
 use Rattle.session.specs.declared.Answer.the-variants.{Refused, Taken}
 use Rattle.session.specs.Event.{Done, event}
+use Rattle.blocks.specs.declared.Ran.{Ran}
 
 pub record Fed : Type 0 where
   pub session : Session
@@ -71,6 +74,23 @@ unfoldable pub fed : ℕ → Session → List ℕ → List ℕ → Fed
 fed zero s es out = none s out
 fed (suc n) s es out =
     pick (ltb (length out) 516) (none s out) (followed (event s (take 8 es) out) (λ (t : Session). fed n t (drop 8 es)))
+
+abbrev pub RunGives : Session → List ℕ → List ℕ → Ran → List ℕ → Type 0
+RunGives s es out r out′ =
+    record { session = r .session; taken = r .taken; listed = r .listed; refusal = r .refusal; out = out′ } ≡ fed (length es / 8) s es out
+
+ran-same :
+    (s s′ : Session) (t t′ l l′ x x′ : ℕ) → s ≡ s′ → t ≡ t′ → l ≡ l′ → x ≡ x′ →
+    _≡_ {A = Ran} (record { session = s; taken = t; listed = l; refusal = x }) (record { session = s′; taken = t′; listed = l′; refusal = x′ })
+ran-same s s′ t t′ l l′ x x′ es et el ex = rw (es, et, el, ex)
+
+pub run-one : (s : Session) (es out : List ℕ) (r r′ : Ran) (o o′ : List ℕ) → RunGives s es out r o → RunGives s es out r′ o′ → (r ≡ r′) × (o ≡ o′)
+run-one s es out r r′ o o′ g g′ =
+    let e = g ∙ sym g′ in (
+      ran-same (r .session) (r′ .session) (r .taken) (r′ .taken) (r .listed) (r′ .listed) (r .refusal) (r′ .refusal)
+          (ap (λ (f : Fed). f .session) e) (ap (λ (f : Fed). f .taken) e) (ap (λ (f : Fed). f .listed) e) (ap (λ (f : Fed). f .refusal) e),
+      ap (λ (f : Fed). f .out) e,
+    )
 
 unfoldable pub resumed : ℕ → List ℕ → Fed → Fed
 resumed n es r =

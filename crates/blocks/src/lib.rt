@@ -1,10 +1,10 @@
 // A block of events: the session taken apart once, the same as single events one after the other.
 ghost use mathlib.Core.Path.{_≡_};
 ghost use mathlib.Core.Bool.{true};
-ghost use Prim.Native.Nat.{_*_, _/_, _≤_, _<_};
+ghost use Prim.Native.Nat.{_*_, _≤_, _<_};
 ghost use lib.ListN.{length};
 ghost use Rattle.blocks.specs.Step.{stepOpen, stepClose, step};
-ghost use Rattle.blocks.specs.Fed.{fed, goesOn, stepsOn, Advanced};
+ghost use Rattle.blocks.specs.Fed.{RunGives, goesOn, stepsOn, Advanced};
 use act::Counts;
 use records::Event;
 use session::Answer;
@@ -345,7 +345,7 @@ fn advance(session: Session, events: &[u8], out: &mut [u8]) -> Ran
 // Takes the events of whole records from the start of `events`, one after the other, until they end, one is refused, or less than 516 bytes of the
 // buffer are left.
 pub fn run(session: Session, events: &[u8], out: &mut [u8]) -> Ran
-    ensures { λ r. ⌜ record { session = r .session; taken = r .taken; listed = r .listed; refusal = r .refusal; out = now (out .exit) } ≡ fed (length (now (events .entry)) / 8) session (now (events .entry)) (now (out .entry)) ⌝ }
+    ensures { λ r. ⌜ RunGives session (now (events .entry)) (now (out .entry)) r (now (out .exit)) ⌝ }
     ensures { λ r. ⌜ (8 * r .taken ≤ length (now (events .entry))) × (4 * r .listed ≤ length (now (out .exit))) ⌝ }
 {
     let mut s = session;

@@ -1,6 +1,5 @@
 -- Handing out, on the columns of the waiting nodes and in the buffer.
 --
---   recordsOf ns        the list records of the nodes ns
 --   buffer ns out       out with the list records of ns at its start, the rest unchanged
 --   write-columns       the loop that writes
 --   hand-columns        the first k nodes are handed out
@@ -17,7 +16,8 @@ use lib.ListN.{length, getD, take, drop, set, length-append, length-map, length-
 use lib.Seq.{sets, sets-eq, take-at, drop-at, drop-drop, length-take-le}
 use borrow.Author.Tests.{eq-eqb, ne-eqb}
 use Rattle.choice.specs.Pick.{pick-true, pick-false}
-use Rattle.records.specs.Write.{nodeBytes}
+use Rattle.records.specs.Write.{nodeBytes, recordsOf}
+use Rattle.records.specs.Write.Laws.{length-records, records-append}
 use Rattle.engine.specs.Quick.{Waiting}
 use Rattle.queue.specs.Loops.{Queue, cleared, shifted, written}
 use Rattle.queue.specs.Queue.{Handed, dropped, handedOut, Joined, joined}
@@ -25,23 +25,13 @@ use Rattle.columns.specs.Lists.{zeros, column, column-set}
 use Rattle.columns.specs.Front.{queueOf}
 use Rattle.columns.specs.Slots.{clear-law, shifted-column}
 
-unfoldable pub recordsOf : List ℕ → List ℕ
-recordsOf [] = []
-recordsOf (n ∷ ns) = nodeBytes n ++ recordsOf ns
-
 -- "those nodes stand as list records, in rising order, at the start of the lent output buffer, and the rest of the buffer is unchanged"
 unfoldable pub buffer : List ℕ → List ℕ → List ℕ
 buffer ns out = recordsOf ns ++ drop (4 * length ns) out
 
-pub length-records : (ns : List ℕ) → length (recordsOf ns) ≡ 4 * length ns
+records-snoc : (ns : List ℕ) (n : ℕ) → recordsOf (ns ++ (n ∷ [])) ≡ recordsOf ns ++ nodeBytes n
 unfolding recordsOf
-length-records [] = refl
-length-records (n ∷ ns) = omega (arith, length-append (nodeBytes n) (recordsOf ns), length-records ns)
-
-pub records-snoc : (ns : List ℕ) (n : ℕ) → recordsOf (ns ++ (n ∷ [])) ≡ recordsOf ns ++ nodeBytes n
-unfolding recordsOf
-records-snoc [] n = append-nil (nodeBytes n)
-records-snoc (m ∷ ns) n = ap (λ l. nodeBytes m ++ l) (records-snoc ns n) ∙ sym (append-assoc (nodeBytes m) (recordsOf ns) (nodeBytes n))
+records-snoc ns n = records-append ns (n ∷ [])
 
 -- one record more in the buffer
 buffer-snoc : (ns : List ℕ) (n : ℕ) (out : List ℕ) → 4 * length ns + 4 ≤ length out → sets (buffer ns out) (4 * length ns) (nodeBytes n) ≡ buffer (ns ++ (n ∷ [])) out

@@ -6,23 +6,20 @@
 --   lines-short         so many lines have at most 11 bytes each
 --   put-next            one line more is put
 --   put-end, put-refused, put-refused-at      a last line is put, part by part
---   recordsOf ns        the list records of ns, end to end
---   nodesIn-recordsOf   nodes that were written as list records are read as the nodes, and then those of the records behind them
 --
 -- Assumes nothing.
-use Prim.Native.Nat.{ℕ, zero, suc, _+_, _*_, _/_, _%_, _^_, _≤_, _<_}
-use native.Mathlib.Nat.{zero-add, suc-add, div-div-eq-div-mul}
+use Prim.Native.Nat.{ℕ, zero, suc, _+_, _*_, _^_, _≤_, _<_}
 use native.Mathlib.Numerals.{add-one}
 use native.Mathlib.Omega.{arith}
-use mathlib.Core.Path.{_≡_, refl, sym, ap, ap₂, _∙_}
+use mathlib.Core.Path.{_≡_, refl, sym, ap, _∙_}
 use mathlib.Core.List.{List, [], _∷_, _++_, append-nil, append-assoc}
 use lib.ListN.{length, getD, length-append}
-use Rattle.records.specs.Write.{nodeBytes}
+use Rattle.records.specs.Write.{nodeAt, nodesIn}
 use Rattle.lines.specs.Decimal.{decimal}
 use Rattle.lines.specs.DecimalLaws.{length-short}
 use Rattle.lines.specs.Put.{Put}
 use Rattle.lines.specs.PutLaws.{put-then}
-use Rattle.lines.specs.Text.{line, linesOf, nodeAt, nodesIn, endWord, refusedWord, atWord, endLine, refusedLine, refusedAtLine}
+use Rattle.lines.specs.Text.{line, linesOf, endWord, refusedWord, atWord, endLine, refusedLine, refusedAtLine}
 
 pub linesOf-append : (ns ms : List ℕ) → linesOf (ns ++ ms) ≡ linesOf ns ++ linesOf ms
 unfolding linesOf
@@ -73,45 +70,3 @@ module _ {l l′ l″ : List ℕ} {at e r : ℕ} where
       Put l at refusedWord m i → Put m i (decimal n) m′ j → Put m′ j atWord l′ e → Put l′ e (line x) l″ r → Put l at (refusedAtLine k x) l″ r
   unfolding refusedAtLine
   put-refused-at n k x is p q s t = rw (← is) (put-then p (put-then q (put-then s t)))
-
-unfoldable pub recordsOf : List ℕ → List ℕ
-recordsOf [] = []
-recordsOf (n ∷ ns) = nodeBytes n ++ recordsOf ns
-
--- a node has four bytes
-abbrev pub Nodes : List ℕ → Type 0
-Nodes ns = (i : ℕ) → getD ns i 0 < 4294967296
-
--- a number under 2 ^ 32 is its four bytes
-byte-by-byte : (n q r s : ℕ) → n / 256 ≡ q → q / 256 ≡ r → r / 256 ≡ s → s < 256 → s % 256 * 16777216 + r % 256 * 65536 + q % 256 * 256 + n % 256 ≡ n
-byte-by-byte n q r s e f g h = omega arith
-
-four-bytes : (n : ℕ) → n < 4294967296 → n / 16777216 % 256 * 16777216 + n / 65536 % 256 * 65536 + n / 256 % 256 * 256 + n % 256 ≡ n
-four-bytes n h = byte-by-byte n (n / 256) (n / 65536) (n / 16777216) refl (div-div-eq-div-mul n 256 256) (div-div-eq-div-mul n 65536 256) (omega arith)
-
--- the first node, and then those of the records behind it
-module _ (a b c d : ℕ) (bs : List ℕ) where
-  behind : (i j : ℕ) → i ≡ suc (suc (suc (suc j))) → getD (a ∷ b ∷ c ∷ d ∷ bs) i 0 ≡ getD bs j 0
-  behind i j e = ap (λ k. getD (a ∷ b ∷ c ∷ d ∷ bs) k 0) e
-
-  nodeAt-behind : (k : ℕ) → nodeAt (a ∷ b ∷ c ∷ d ∷ bs) (suc k) ≡ nodeAt bs k
-  nodeAt-behind k =
-      rw (
-        behind (4 * suc k) (4 * k) (omega arith),
-        behind (4 * suc k + 1) (4 * k + 1) (omega arith),
-        behind (4 * suc k + 2) (4 * k + 2) (omega arith),
-        behind (4 * suc k + 3) (4 * k + 3) (omega arith),
-      )
-
-  nodesIn-cons : (k : ℕ) → nodesIn (suc k) (a ∷ b ∷ c ∷ d ∷ bs) ≡ (a * 16777216 + b * 65536 + c * 256 + d) ∷ nodesIn k bs
-  unfolding nodesIn
-  nodesIn-cons zero = refl
-  nodesIn-cons (suc k) = rw (nodesIn-cons k, nodeAt-behind k)
-
-pub nodesIn-recordsOf : (ns rest : List ℕ) (k : ℕ) → Nodes ns → nodesIn (length ns + k) (recordsOf ns ++ rest) ≡ ns ++ nodesIn k rest
-unfolding recordsOf
-nodesIn-recordsOf [] rest k h = ap (λ m. nodesIn m rest) (zero-add k)
-nodesIn-recordsOf (n ∷ ns) rest k h =
-    ap (λ m. nodesIn m (recordsOf (n ∷ ns) ++ rest)) (suc-add (length ns) k)
-    ∙ nodesIn-cons (n / 16777216 % 256) (n / 65536 % 256) (n / 256 % 256) (n % 256) (recordsOf ns ++ rest) (length ns + k)
-    ∙ ap₂ _∷_ (four-bytes n (h 0)) (nodesIn-recordsOf ns rest k (λ i. h (suc i)))

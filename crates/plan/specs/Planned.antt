@@ -13,6 +13,7 @@
 --   orderOf q n        the first n steps of the bytes q in the order of their places, as the numbers of steps before them
 --   columns P          a plan as the code's struct
 --   planOf q           the plan that is made of the bytes q
+--   PlanGives q r      THE PROMISE of `plan_of`: r is that plan
 --   Columns Q r        r is the plan of the query Q, column by column
 --   Long r             r has 32 slots in each column, and 32 steps at most
 --
@@ -88,6 +89,9 @@ columns P =
 
 unfoldable pub planOf : List ℕ → Plan
 planOf q = columns (plan (planned q))
+
+abbrev pub PlanGives : List ℕ → Plan → Type 0
+PlanGives q r = r ≡ planOf q
 
 pub record Columns (Q : Query) (r : Plan) : Type 0 where
   pub names : r .names ≡ plan Q .tests ++ zeros (mostSteps - length Q)

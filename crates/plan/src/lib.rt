@@ -10,7 +10,7 @@ ghost use lib.ListN.{getD};
 ghost use Rattle.meaning.specs.Query.{hangs, goesDeep};
 ghost use Rattle.sets.specs.Set.{maskOf};
 ghost use Rattle.query.specs.Rules.{stepBytes, stepOf};
-ghost use Rattle.plan.specs.Planned.{stepAt, sizeOf, starts, passed, placed, orderOf, padded, planOf};
+ghost use Rattle.plan.specs.Planned.{stepAt, sizeOf, starts, passed, placed, orderOf, padded, PlanGives};
 
 pub struct Plan {
     // The name test of the step at each place; 0 past the last step, as in `hung`.
@@ -43,7 +43,7 @@ enum Test {
 
 // The plan of a query's bytes.
 pub fn plan_of(query: &[u8]) -> Plan
-    ensures { λ r. ⌜ r ≡ planOf (now (query .entry)) ⌝ }
+    ensures { λ r. ⌜ PlanGives (now (query .entry)) r ⌝ }
 {
     let size = size_of(query.len() / 8);
     let order = order_of(query, size);

@@ -9,6 +9,7 @@
 --   judgedFrom q n s     the answer of n steps, of which the first has s steps before it: the first that breaks a rule decides
 --   judged q             the answer of a query of right length
 --   answerTo q           the answer to the bytes q
+--   CheckGives q r       THE PROMISE of `check`: r, as it stands for an answer, is the answer to q
 --
 -- Assumes nothing. NOT here: the rules (Rules); that `answerTo` gives exactly what is owed (Answer.Laws).
 pub mod Laws
@@ -76,3 +77,6 @@ ifWrong false rest = rest
 -- "The lowest number that applies is given."
 unfoldable pub answerTo : List ℕ → Answer
 answerTo q = ifWrong (wrongLength (length q)) (judged q)
+
+abbrev pub CheckGives : List ℕ → QueryAnswer → Type 0
+CheckGives q r = said r ≡ answerTo q

@@ -3,7 +3,7 @@ ghost use mathlib.Core.Path.{_≡_};
 ghost use lib.ListN.{length};
 ghost use Rattle.meaning.specs.Query.{hangsRight, nearer};
 ghost use Rattle.query.specs.Rules.{stepBytes, wrongLength, Right, axisNamed, axisRule, roleRule, zeroRule, keepsWith};
-ghost use Rattle.query.specs.Answer.{answerTo, judged, said};
+ghost use Rattle.query.specs.Answer.{CheckGives, judged, said};
 
 // What the check answers. `said` of specs/Answer.antt gives each case its number.
 pub enum QueryAnswer {
@@ -31,7 +31,7 @@ pub const LONGEST: usize = MOST_STEPS * STEP_BYTES;
 
 // Admits a query, or refuses it with the number that applies.
 pub fn check(query: &[u8]) -> QueryAnswer
-    ensures { λ r. ⌜ said r ≡ answerTo (now (query .entry)) ⌝ }
+    ensures { λ r. ⌜ CheckGives (now (query .entry)) r ⌝ }
 {
     if wrong_length(query.len()) {
         return QueryAnswer::BadLength;

@@ -6,11 +6,14 @@
 --   settled s p              the answer and the session, the open or the close having come to p
 --   onOpen s x out, onClose s x out, onEvent s e out        an open of x, a close of x, any event
 --   event s bytes out        an event, by its bytes
+--   EventGives s bytes out r out′       THE PROMISE of `event`: its result r and the buffer out′ on return are those
 --   finish s                 the nodes opened and handed out, or refusal 8
+--   FinishGives s r          THE PROMISE of `finish`: its result r is that
 --
 -- Assumes nothing. NOT here: what an open and a close do to the arrays (crate act), which bytes are which event (crate meaning, Record).
 pub mod Laws
 use Prim.Native.Nat.{ℕ}
+use mathlib.Core.Path.{_≡_}
 use mathlib.Core.List.{List}
 use lib.Dec.{eqb, ltb}
 use lib.ListN.{length}
@@ -28,6 +31,7 @@ use Rattle.act.specs.Act.{Parts, openedOn, closedOn}
 use Rattle.session.specs.declared.Session.{Session}
 use Rattle.session.specs.declared.Answer.{Answer}
 use Rattle.session.specs.declared.Answer.the-variants.{Refused, Taken}
+use Rattle.session.specs.declared.Step.{Step}
 use Rattle.session.specs.declared.Finish as finished
 use Rattle.session.specs.declared.Finish.the-variants as finishing
 
@@ -89,6 +93,12 @@ onEvent s Bad out = refused 2 s out
 unfoldable pub event : Session → List ℕ → List ℕ → Done
 event s bytes out = pick (ltb (length out) 516) (refused 1 s out) (onEvent s (shown (eventOf bytes)) out)
 
+abbrev pub EventGives : Session → List ℕ → List ℕ → Step → List ℕ → Type 0
+EventGives s bytes out r out′ = record { answer = r .answer; session = r .session; out = out′ } ≡ event s bytes out
+
 -- "8: no document element yet, or it is still open"
 unfoldable pub finish : Session → finished.Finish
 finish s = pick (s .counts .ended) (finishing.Ended (s .counts .opened) (s .counts .handed)) (finishing.Refused 8)
+
+abbrev pub FinishGives : Session → finished.Finish → Type 0
+FinishGives s r = r ≡ finish s

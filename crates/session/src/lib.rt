@@ -2,9 +2,8 @@
 ghost use mathlib.Core.Path.{_≡_};
 ghost use Prim.Native.Nat.{_≤_};
 ghost use lib.ListN.{length};
-ghost use Rattle.query.specs.Answer.{said};
-ghost use Rattle.session.specs.Begin.{fresh, begun};
-ghost use Rattle.session.specs.Event.{onOpen, onClose, event, finish};
+ghost use Rattle.session.specs.Begin.{fresh, BeginGives};
+ghost use Rattle.session.specs.Event.{onOpen, onClose, EventGives, FinishGives};
 use act::Counts;
 use plan::Plan;
 use query::QueryAnswer;
@@ -54,7 +53,7 @@ pub struct Begun {
 
 // A session for a query, at the start of its stream.
 pub fn begin(query: &[u8]) -> Begun
-    ensures { λ r. ⌜ record { answer = said (r .answer); session = r .session } ≡ begun (now (query .entry)) ⌝ }
+    ensures { λ r. ⌜ BeginGives (now (query .entry)) r ⌝ }
 {
     let answer = query::check(query);
     match answer {
@@ -232,7 +231,7 @@ impl Session {
 
     // Takes one event.
     pub fn event(self, bytes: &[u8], out: &mut [u8]) -> Step
-        ensures { λ r. ⌜ record { answer = r .answer; session = r .session; out = now (out .exit) } ≡ event self (now (bytes .entry)) (now (out .entry)) ⌝ }
+        ensures { λ r. ⌜ EventGives self (now (bytes .entry)) (now (out .entry)) r (now (out .exit)) ⌝ }
     {
         if out.len() < ROOM {
             return Step {
@@ -253,7 +252,7 @@ impl Session {
 
     // "it changes nothing and may be asked again"
     pub fn finish(self) -> Finish
-        ensures { λ r. ⌜ r ≡ finish self ⌝ }
+        ensures { λ r. ⌜ FinishGives self r ⌝ }
     {
         let c = self.counts;
         if c.ended {

@@ -5,7 +5,7 @@
 --   planOf-admitted   and so for every query that the check admits; columns-admitted: column by column
 --   right-admitted    and that plan is right, as its order is
 --   planOf-long       a plan of any bytes has 32 slots, and at most so many steps
---   planOf-one        two results that the promise of `plan_of` allows are equal
+--   plan-one          two results that the promise of `plan_of` allows are equal
 --
 -- Assumes nothing but admission.
 use Prim.Native.Nat.{ℕ, _-_, _≤_}
@@ -28,7 +28,7 @@ use Rattle.plan.specs.Places.{OrderRight, PlanRight}
 use Rattle.plan.specs.Places.Laws.{order-length}
 use Rattle.plan.specs.Places.Order.{order-right}
 use Rattle.plan.specs.Places.Plan.{plan-right}
-use Rattle.plan.specs.Planned.{sizeOf, planned, zeros, filled, columns, planOf, Columns, Long}
+use Rattle.plan.specs.Planned.{sizeOf, planned, zeros, filled, columns, planOf, PlanGives, Columns, Long}
 use Rattle.plan.specs.Planned.Steps.{from-length}
 use Rattle.plan.specs.declared.Plan.{Plan}
 
@@ -88,5 +88,5 @@ planOf-long q =
       size = omega (arith, plan-size (planned q));
     }
 
-pub planOf-one : (q : List ℕ) (r s : Plan) → r ≡ planOf q → s ≡ planOf q → r ≡ s
-planOf-one q r s a b = a ∙ sym b
+pub plan-one : (q : List ℕ) (r s : Plan) → PlanGives q r → PlanGives q s → r ≡ s
+plan-one q r s a b = a ∙ sym b

@@ -17,7 +17,7 @@ use native.Mathlib.Omega.{arith}
 use borrow.Author.Count.{below-more}
 use lib.ListN.{length}
 use Rattle.query.specs.Rules.{wrongLength, steps, keeps}
-use Rattle.query.specs.Answer.{badLength, badStep, Answer, admitted, refused, refusedAt, said, FirstBreaking, Kept, Owed, ifKept, judgedFrom, judged, ifWrong, answerTo}
+use Rattle.query.specs.Answer.{badLength, badStep, Answer, admitted, refused, refusedAt, said, FirstBreaking, Kept, Owed, ifKept, judgedFrom, judged, ifWrong, answerTo, CheckGives}
 use Rattle.query.specs.declared.QueryAnswer.{QueryAnswer}
 use Rattle.query.specs.declared.QueryAnswer.the-variants.{Admitted, BadLength, BadStep}
 
@@ -104,5 +104,5 @@ unsaid-said (BadStep k) = refl
 pub said-one : (a b : QueryAnswer) → said a ≡ said b → a ≡ b
 said-one a b e = sym (unsaid-said a) ∙ ap unsaid e ∙ unsaid-said b
 
-pub check-one : (q : List ℕ) (a b : QueryAnswer) → said a ≡ answerTo q → said b ≡ answerTo q → a ≡ b
+pub check-one : (q : List ℕ) (a b : QueryAnswer) → CheckGives q a → CheckGives q b → a ≡ b
 check-one q a b p r = said-one a b (p ∙ sym r)

@@ -1,11 +1,12 @@
--- What the calls of an event give together, over what each call answered.
+-- What the calls of an event give together, over what each call answered, and that the promises of event and finish allow one result.
 --
 --   open-refused, open-full, open-taken     an open that its counts refuse; refusal 7; one that is taken
 --   close-refused, close-taken              a close that is refused; one that is taken
+--   event-one, finish-one                   two results that the promise allows are equal, and so are the buffers on return
 --
 -- The session and what an act came to are given explicitly: they are too large to be found. Assumes nothing.
 use Prim.Native.Nat.{ℕ}
-use mathlib.Core.Path.{_≡_, refl, sym, ap, _∙_}
+use mathlib.Core.Path.{_≡_, refl, sym, ap, ap₂, _∙_}
 use mathlib.Core.Bool.{Bool, true, false}
 use mathlib.Core.List.{List}
 use borrow.Author.Tests.{eq-eqb, ne-eqb}
@@ -14,8 +15,11 @@ use Rattle.plan.specs.Planned.{sizeOf}
 use Rattle.act.specs.Refuse.{refuseOpen, refuseClose}
 use Rattle.act.specs.Act.{Parts, openedOn, closedOn}
 use Rattle.session.specs.declared.Session.{Session}
+use Rattle.session.specs.declared.Answer.{Answer}
 use Rattle.session.specs.declared.Answer.the-variants.{Taken}
-use Rattle.session.specs.Event.{Done, refused, framesIn, queueIn, whole, settled, onOpen, onClose}
+use Rattle.session.specs.declared.Step.{Step}
+use Rattle.session.specs.declared.Finish as finished
+use Rattle.session.specs.Event.{Done, refused, framesIn, queueIn, whole, settled, onOpen, onClose, EventGives, FinishGives}
 
 module _ (s : Session) (p : Parts) where
   settled-full : p .acted .full ≡ true → refused 7 s (p .out) ≡ settled s p
@@ -69,3 +73,14 @@ module _ (s : Session) (out : List ℕ) (x : ℕ) where
       (onClose s x out)
   unfolding onClose
   close-taken r e z p ep h = pick-yes _ _ _ _ (eq-eqb _ _ (sym e ∙ z)) (settled-taken s p h ∙ ap (settled s) ep)
+
+pub event-one :
+    (s : Session) (bytes out : List ℕ) (r r′ : Step) (o o′ : List ℕ) → EventGives s bytes out r o → EventGives s bytes out r′ o′ → (r ≡ r′) × (o ≡ o′)
+event-one s bytes out r r′ o o′ g g′ =
+    let e = g ∙ sym g′ in (
+      ap₂ (λ (a : Answer) (t : Session). record { answer = a; session = t }) (ap (λ (d : Done). d .answer) e) (ap (λ (d : Done). d .session) e),
+      ap (λ (d : Done). d .out) e,
+    )
+
+pub finish-one : (s : Session) (r r′ : finished.Finish) → FinishGives s r → FinishGives s r′ → r ≡ r′
+finish-one s r r′ g g′ = g ∙ sym g′
