@@ -1,4 +1,4 @@
-pub mod Offered
+pub mod Progress
 pub mod Line
 pub mod Program
 pub mod State

@@ -13,7 +13,7 @@
 --   WorkedAll file session s     what all turns come to
 --   EventsAnswered session text r    all nodes are written and the last line stands at the start of the text, or standard output took no more
 --
--- Assumes nothing. NOT here: what is owed (Program), what offering records comes to (Offered).
+-- Assumes nothing. NOT here: what is owed (Program), what offering records comes to (Progress).
 pub mod Laws
 pub mod Turns
 use Prim.Native.Nat.{ℕ, zero, suc, _-_, _+_, _*_, _/_, _≤_, _<_}
@@ -36,7 +36,7 @@ use Rattle.lines.specs.Text.{linesOf, nodesIn}
 use Rattle.system.specs.declared.File.{File}
 use Rattle.system.specs.Marks.{Given, Handed, Received, Delivered}
 use Rattle.pick.specs.declared.State.{State}
-use Rattle.pick.specs.Offered.{Offered}
+use Rattle.pick.specs.Progress.{Progress}
 use Rattle.pick.specs.Program.{lastLineOf, Failed, eventsName, Read}
 
 abbrev pub unread : State → List ℕ → List ℕ
@@ -96,7 +96,7 @@ pub record Underway (b : List ℕ) (file : File) (s : State) (input : List ℕ) 
   pub bytes : List ℕ
   pub nodes : List ℕ
   pub received : Received file bytes
-  pub offered : Offered b [] bytes (s .session) (s .taken) (s .refusal) nodes
+  pub offered : Progress b [] bytes (s .session) (s .taken) (s .refusal) nodes
   pub rest : unread s input ≡ drop (8 * s .taken) bytes
   pub over : s .ended ≡ true → s .refusal ≡ 0 → length bytes ≤ 8 * s .taken
   pub delivered : s .written ≡ true → Delivered (linesOf nodes)

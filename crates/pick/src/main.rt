@@ -7,7 +7,7 @@ ghost use mathlib.Core.Bool.{Bool};
 ghost use mathlib.Core.List.{List};
 ghost use Prim.Native.Nat.{ℕ, _+_, _*_, _/_, _≤_, _<_};
 ghost use lib.ListN.{length, take, drop};
-ghost use Rattle.blocks.specs.Fed.{fed};
+ghost use Rattle.blocks.specs.Fed.{RunGives};
 ghost use Rattle.io.specs.Counts.{Counts};
 ghost use Rattle.lines.specs.Put.{Put};
 ghost use Rattle.lines.specs.Text.{linesOf, nodesIn};
@@ -49,7 +49,7 @@ fn work(session: Session, events: &[u8], out: &mut [u8], text: &mut [u8]) -> Blo
     ensures { λ r. ⌜ Put (now (text .entry)) 0 (linesOf (nodesIn (r .ran .listed) (now (out .exit)))) (now (text .exit)) (r .length) ⌝ }
     ensures { λ r. ⌜ Counts (r .length) (now (text .exit)) ⌝ }
     ensures { λ r. ⌜ 8 * r .ran .taken ≤ length (now (events .entry)) ⌝ }
-    ensures { λ r. ⌜ record { session = r .ran .session; taken = r .ran .taken; listed = r .ran .listed; refusal = r .ran .refusal; out = now (out .exit) } ≡ fed (length (now (events .entry)) / 8) session (now (events .entry)) (now (out .entry)) ⌝ }
+    ensures { λ r. ⌜ RunGives session (now (events .entry)) (now (out .entry)) (r .ran) (now (out .exit)) ⌝ }
 {
     let ran = blocks::run(session, events, out);
     let length = lines::put_lines(&*out, ran.listed, text);

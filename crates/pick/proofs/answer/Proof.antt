@@ -1,7 +1,8 @@
 -- `pick::answer` meets its contract. Assumes nothing.
 use mathlib.Core.Logic.{inl}
 use borrow.Author.Needs.{needs}
-use Rattle.pick.specs.Program.Laws.{refused-lined, silent-admitted, admitted-lined, begun-checked, begun-of, answered-by}
+use Rattle.promise.specs.Promise.{begin-answer, begin-of}
+use Rattle.pick.specs.Program.Laws.{refused-lined, silent-admitted, admitted-lined, answered-by}
 use Rattle.pick.proofs.answer.Statement.{statement}
 use Rattle.pick.proofs.answer.Tie as tie
 
@@ -20,7 +21,7 @@ returns c =
     let begin = c .before .before .before .before .before .begin in
     let line = c .before .before .before .query-line .ensures in
     let query = start .args .query .now in
-    let checked = begun-checked query (begin .result .answer) (begin .result .session) (begin .ensures) in
+    let checked = begin-answer query (begin .result) (begin .ensures) in
     (inl (refused-lined query (begin .result .answer) checked _ _ _ (line .0) (search needs) (c .if1 .taken)), line .1)
 
 answer-events-requires : tie.Need-answer-events-requires
@@ -29,9 +30,9 @@ answer-events-requires c κs =
     let begin = c .before .before .before .before .before .before .before .begin in
     let line = c .before .before .before .before .before .query-line .ensures in
     let query = start .args .query .now in
-    let checked = begun-checked query (begin .result .answer) (begin .result .session) (begin .ensures) in
+    let checked = begin-answer query (begin .result) (begin .ensures) in
     let so = silent-admitted query (begin .result .answer) checked _ _ _ (line .0) (c .before .before .if1 .left) in
-    (search needs, record { query = query; begun = begun-of query (λ i. c .before .before .before .before .before .before .before .before .before .shared-slice-known .given i .fits) _ _ (begin .ensures) so })
+    (search needs, record { query = query; begun = begin-of query (begin .result) (λ i. c .before .before .before .before .before .before .before .before .before .shared-slice-known .given i .fits) (begin .ensures) so })
 
 same-length-2 : tie.Need-same-length-2
 same-length-2 c = search needs
@@ -42,10 +43,10 @@ returns-2 c =
     let begin = c .before .before .before .before .before .before .before .before .before .before .begin in
     let line = c .before .before .before .before .before .before .before .before .query-line .ensures in
     let query = start .args .query .now in
-    let checked = begun-checked query (begin .result .answer) (begin .result .session) (begin .ensures) in
+    let checked = begin-answer query (begin .result) (begin .ensures) in
     let few = c .before .before .before .before .before .if1 .left in
     let so = silent-admitted query (begin .result .answer) checked _ _ _ (line .0) few in
-    let of = begun-of query (λ i. c .before .before .before .before .before .before .before .before .before .before .before .before .shared-slice-known .given i .fits) _ _ (begin .ensures) so in
+    let of = begin-of query (begin .result) (λ i. c .before .before .before .before .before .before .before .before .before .before .before .before .shared-slice-known .given i .fits) (begin .ensures) so in
     let events = c .before .before .answer-events .ensures in
     (answered-by (λ l. admitted-lined query (begin .result .answer) checked _ _ _ (line .0) few _ _ (l query of)) (events .0), events .1)
 

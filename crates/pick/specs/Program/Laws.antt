@@ -4,8 +4,6 @@
 --   streamed-lined        and it is put for a stream that was worked on whole
 --   refused-lined, admitted-lined      what the query's answer leaves to be written
 --   silent-admitted       only an admitted query is answered by no line
---   begun-checked         begin's answer is that of the query check
---   begun-of              begin's session for an admitted query is one that calls reach
 --   outcome-written       the rest is written
 --
 -- Assumes nothing.
@@ -27,14 +25,13 @@ use Rattle.meaning.specs.Offering.{offeringAll}
 use Rattle.query.specs.declared.QueryAnswer.{QueryAnswer}
 use Rattle.query.specs.declared.QueryAnswer.the-variants.{Admitted, BadLength, BadStep}
 use Rattle.query.specs.Answer.{Answer, admitted, said, answerTo}
-use Rattle.query.specs.Decode.{decode, Bytes}
+use Rattle.query.specs.Decode.{decode}
 use Rattle.session.specs.declared.Session.{Session}
 use Rattle.session.specs.declared.Finish.{Finish}
 use Rattle.session.specs.declared.Finish.the-variants.{Refused, Ended}
-use Rattle.session.specs.Begin.{Begun, begun}
 use Rattle.session.specs.Event.{finish}
 use Rattle.columns.specs.Right.{owedFinish, finish-right}
-use Rattle.promise.specs.Promise.{Of, sessionAfter, begin-of}
+use Rattle.promise.specs.Promise.{Of, sessionAfter}
 use Rattle.lines.specs.Put.{Put}
 use Rattle.lines.specs.PutLaws.{put-taken}
 use Rattle.lines.specs.Text.{linesOf, endLine, refusedAtLine, refusedLine}
@@ -126,13 +123,12 @@ module _ (query : List ℕ) (a : QueryAnswer) (checked : said a ≡ answerTo que
       }
 
   module _ (text text′ : List ℕ) (r : ℕ) (p : Put text 0 (queryLine a) text′ r) (none-put : r ≤ 0) where
-    pub silent-admitted : answerTo query ≡ admitted
-    unfolding said
-    silent-admitted = sym checked ∙ ap said (query-silent a (omega (arith, p .end)))
+    pub silent-admitted : a ≡ Admitted
+    silent-admitted = query-silent a (omega (arith, p .end))
 
     -- an admitted query: the events' lines
     pub admitted-lined : (t : List ℕ) (k : ℕ) → EventsLined query t k → Lined query t k
-    unfolding owedBy
+    unfolding owedBy said
     admitted-lined t k l =
         record {
           events = l .bytes;
@@ -141,19 +137,8 @@ module _ (query : List ℕ) (a : QueryAnswer) (checked : said a ≡ answerTo que
           delivered = l .delivered;
           owed-so =
               ap (λ (x : List ℕ). linesOf (listed (decode query) (document (offeringAll (decode query) (l .bytes) .events))) ++ x) (l .line)
-              ∙ ap (λ (x : Answer). owedBy x query (l .bytes)) (sym silent-admitted);
+              ∙ ap (λ (x : Answer). owedBy x query (l .bytes)) (sym (ap said silent-admitted) ∙ checked);
         }
-
-pub begun-checked :
-    (query : List ℕ) (a : QueryAnswer) (session : Session) → _≡_ {A = Begun} (record { answer = said a; session = session }) (begun query) →
-    said a ≡ answerTo query
-unfolding begun
-begun-checked query a session e = ap (λ (x : Begun). x .answer) e
-
-pub begun-of :
-    (query : List ℕ) → Bytes query → (a : QueryAnswer) (session : Session) →
-    _≡_ {A = Begun} (record { answer = said a; session = session }) (begun query) → answerTo query ≡ admitted → Of query [] session
-begun-of query bytes a session e h = subst (Of query []) (sym (ap (λ (x : Begun). x .session) e)) (begin-of query bytes h)
 
 pub answered-by : {A B C : Type 0} → (A → B) → A ⊎ C → B ⊎ C
 answered-by f (inl x) = inl (f x)

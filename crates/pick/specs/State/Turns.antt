@@ -36,9 +36,9 @@ use Rattle.lines.specs.TextLaws.{linesOf-append}
 use Rattle.system.specs.declared.File.{File}
 use Rattle.system.specs.Marks.{Handed, received, nothing-yet, Delivered, delivered, none-yet}
 use Rattle.pick.specs.declared.State.{State}
-use Rattle.pick.specs.Offered.{Offered}
-use Rattle.pick.specs.Offered.Laws.{none-offered, offered-then, offered-more, offered-short, offered-all, offered-stopped, offered-count, offered-few}
-use Rattle.pick.specs.Offered.Block.{Told, fed-told}
+use Rattle.pick.specs.Progress.{Progress}
+use Rattle.pick.specs.Progress.Laws.{progress-none, progress-then, progress-more, progress-short, progress-all, progress-stopped, progress-count, progress-few}
+use Rattle.pick.specs.Progress.Block.{BlockProgress, fed-progress}
 use Rattle.pick.specs.Program.{Failed}
 use Rattle.pick.specs.State.{unread, Within, leftoverOf, refusalOf, goesOn, ReadMore, blockOf, Worked, Turned, worked, read, Underway, Streamed}
 
@@ -79,22 +79,22 @@ leftover-none : (left : ℕ) → leftoverOf left ≡ 0 → left ≡ 0
 unfolding leftoverOf
 leftover-none left = pick-known (λ (n : ℕ). n ≡ 0 → left ≡ 0) _ _ _ (λ z e. eqb-true left 0 z) (λ z e. absurd (omega arith))
 
-module _ {b bs : List ℕ} {s : Session} {t left : ℕ} {ns : List ℕ} (o : Offered b [] bs s t 0 ns) (few : left < 8) (all : 8 * t + left ≡ length bs) where
-  offered-leftover : Offered b [] bs s t (leftoverOf left) ns
+module _ {b bs : List ℕ} {s : Session} {t left : ℕ} {ns : List ℕ} (o : Progress b [] bs s t 0 ns) (few : left < 8) (all : 8 * t + left ≡ length bs) where
+  progress-leftover : Progress b [] bs s t (leftoverOf left) ns
   unfolding leftoverOf
-  offered-leftover =
-      pick-known (λ (r : ℕ). Offered b [] bs s t r ns) (eqb left 0) 0 2 (λ z. o)
-      (λ z. offered-short o (omega (arith, positive left (eqb-false left 0 z))) (omega arith))
+  progress-leftover =
+      pick-known (λ (r : ℕ). Progress b [] bs s t r ns) (eqb left 0) 0 2 (λ z. o)
+      (λ z. progress-short o (omega (arith, positive left (eqb-false left 0 z))) (omega arith))
 
-  offered-at-end : (ended : Bool) → Offered b [] bs s t (pick ended (leftoverOf left) 0) ns
+  progress-at-end : (ended : Bool) → Progress b [] bs s t (pick ended (leftoverOf left) 0) ns
   unfolding pick
-  offered-at-end true = offered-leftover
-  offered-at-end false = o
+  progress-at-end true = progress-leftover
+  progress-at-end false = o
 
-offered-as :
-    {b : List ℕ} {es : List Event} {bs : List ℕ} {s s′ : Session} {t t′ r r′ : ℕ} {ns : List ℕ} → s′ ≡ s → t′ ≡ t → r′ ≡ r → Offered b es bs s t r ns →
-    Offered b es bs s′ t′ r′ ns
-offered-as e f g o = rw (e, f, g) o
+progress-as :
+    {b : List ℕ} {es : List Event} {bs : List ℕ} {s s′ : Session} {t t′ r r′ : ℕ} {ns : List ℕ} → s′ ≡ s → t′ ≡ t → r′ ≡ r → Progress b es bs s t r ns →
+    Progress b es bs s′ t′ r′ ns
+progress-as e f g o = rw (e, f, g) o
 
 -- before the first turn
 
@@ -107,7 +107,7 @@ begun-underway file session input o =
       bytes = [];
       nodes = [];
       received = nothing-yet;
-      offered = none-offered [] o;
+      offered = progress-none [] o;
       rest = refl;
       over = λ e z. never e;
       delivered = λ e. none-yet;
@@ -124,8 +124,8 @@ module _ {b : List ℕ} {file : File} (s : State) (input : List ℕ) (u : Underw
   g : Going (s .refusal) (s .ended) (s .written)
   g = going (s .refusal) (s .ended) (s .written) go
 
-  so-far : Offered b [] (u .bytes) (s .session) (s .taken) 0 (u .nodes)
-  so-far = subst (λ (r : ℕ). Offered b [] (u .bytes) (s .session) (s .taken) r (u .nodes)) (g .unrefused) (u .offered)
+  so-far : Progress b [] (u .bytes) (s .session) (s .taken) 0 (u .nodes)
+  so-far = subst (λ (r : ℕ). Progress b [] (u .bytes) (s .session) (s .taken) r (u .nodes)) (g .unrefused) (u .offered)
 
   all-read : 8 * s .taken + (s .end - s .from) ≡ length (u .bytes)
   all-read = omega (arith, ap length (u .rest), unread-length s input w, length-drop (8 * s .taken) (u .bytes), so-far .within)
@@ -139,9 +139,9 @@ module _ {b : List ℕ} {file : File} (s : State) (input : List ℕ) (u : Underw
     ended-none : s′ .ended ≡ true → length (m .bytes) ≡ 0
     ended-none e = eqb-true _ _ (sym (m .ended-so) ∙ e)
 
-    read-offered : (e : Bool) → s′ .ended ≡ e → Offered b [] (u .bytes ++ m .bytes) (s .session) (s .taken) (pick e (leftoverOf (s .end - s .from)) 0) (u .nodes)
-    read-offered true e = offered-at-end (offered-more so-far (m .bytes)) few (omega (arith, read-all, ended-none e)) true
-    read-offered false e = unfold pick in offered-more so-far (m .bytes)
+    read-progress : (e : Bool) → s′ .ended ≡ e → Progress b [] (u .bytes ++ m .bytes) (s .session) (s .taken) (pick e (leftoverOf (s .end - s .from)) 0) (u .nodes)
+    read-progress true e = progress-at-end (progress-more so-far (m .bytes)) few (omega (arith, read-all, ended-none e)) true
+    read-progress false e = unfold pick in progress-more so-far (m .bytes)
 
     read-underway : Underway b file s′ input′
     read-underway =
@@ -149,7 +149,7 @@ module _ {b : List ℕ} {file : File} (s : State) (input : List ℕ) (u : Underw
           bytes = u .bytes ++ m .bytes;
           nodes = u .nodes;
           received = received (u .received) (m .bytes) (m .given);
-          offered = offered-as (m .session-same) (m .taken-same) (m .refused-so) (read-offered (s′ .ended) refl);
+          offered = progress-as (m .session-same) (m .taken-same) (m .refused-so) (read-progress (s′ .ended) refl);
           rest =
               m .behind
               ∙ ap (λ (x : List ℕ). x ++ m .bytes) (u .rest)
@@ -170,8 +170,8 @@ module _ {b : List ℕ} {file : File} (s : State) (input : List ℕ) (u : Underw
     f : Fed
     f = blockOf s input out
 
-    told : Told b (so-far .events) (unread s input) (length (unread s input) / 8) out (blockOf s input out)
-    told = fed-told (length (unread s input) / 8) (unread s input) out (so-far .reached) (omega arith)
+    told : BlockProgress b (so-far .events) (unread s input) (length (unread s input) / 8) out (blockOf s input out)
+    told = fed-progress (length (unread s input) / 8) (unread s input) out (so-far .reached) (omega arith)
 
     more-nodes : List ℕ
     more-nodes = nodesIn (blockOf s input out .listed) (blockOf s input out .out)
@@ -186,10 +186,10 @@ module _ {b : List ℕ} {file : File} (s : State) (input : List ℕ) (u : Underw
           nodes = u .nodes ++ more-nodes;
           received = u .received;
           offered =
-              offered-as (b′ .session-so) (b′ .taken-so) (b′ .refusal-so)
-              (offered-then so-far
+              progress-as (b′ .session-so) (b′ .taken-so) (b′ .refusal-so)
+              (progress-then so-far
               (subst
-              (λ (x : List ℕ). Offered b (so-far .events) x (blockOf s input out .session) k (blockOf s input out .refusal) more-nodes)
+              (λ (x : List ℕ). Progress b (so-far .events) x (blockOf s input out .session) k (blockOf s input out .refusal) more-nodes)
               (u .rest) (told .offered)));
           rest =
               b′ .left
@@ -242,7 +242,7 @@ module _ {b : List ℕ} {file : File} (s : State) (input : List ℕ) (u : Underw
       left = ap length (x .left) ∙ length-drop (8 * blockOf s input out .taken) (unread s input)
 
       few : s .taken + blockOf s input out .taken ≤ 33554430
-      few = omega (arith, offered-few (work-underway out s′ x .offered), x .taken-so)
+      few = omega (arith, progress-few (work-underway out s′ x .offered), x .taken-so)
 
       by : (e : Bool) → eqb (s′ .refusal) 0 ≡ e → measure L s′ input < measure L s input
       by true e =
@@ -269,7 +269,7 @@ turn-within s input out s′ input′ (read few m) = m .within
 
 module _ {b : List ℕ} {file : File} {s : State} {input : List ℕ} (u : Underway b file s input) where
   pub underway-few : s .taken ≤ 33554430
-  underway-few = offered-few (u .offered)
+  underway-few = progress-few (u .offered)
 
   -- the whole stream, by what offering it comes to
   streamed-as :
@@ -281,7 +281,7 @@ module _ {b : List ℕ} {file : File} {s : State} {input : List ℕ} (u : Underw
         bytes = u .bytes;
         received = u .received;
         reached = subst (λ (fs : List Event). Of b fs (s .session)) (sym es) (u .offered .reached);
-        counted = sym (ap length es ∙ offered-count (u .offered));
+        counted = sym (ap length es ∙ progress-count (u .offered));
         refusal-so = sym (ap (λ (x : Offering). x .refusal) e ∙ r);
         delivered =
             subst Delivered (ap linesOf (u .offered .listing ∙ ap (λ (fs : List Event). listed (decode b) (document fs)) (sym es)))
@@ -295,10 +295,10 @@ module _ {b : List ℕ} {file : File} {s : State} {input : List ℕ} (u : Underw
       (λ z.
       pick-known (λ (x : Bool). x ≡ false → Streamed b file s) (s .ended) _ _
       (λ e h.
-      streamed-as _ (offered-all (u .offered) (eqb-true _ _ z) (u .over e (eqb-true _ _ z))) refl
+      streamed-as _ (progress-all (u .offered) (eqb-true _ _ z) (u .over e (eqb-true _ _ z))) refl
       (refusal-none (s .refusal) (eqb-true _ _ z)) t)
       (λ e h. never (sym h ∙ t)))
-      (λ z h. streamed-as _ (offered-stopped (u .offered) (eqb-false _ _ z)) refl (refusal-some (s .refusal) (eqb-false _ _ z)) t) stop
+      (λ z h. streamed-as _ (progress-stopped (u .offered) (eqb-false _ _ z)) refl (refusal-some (s .refusal) (eqb-false _ _ z)) t) stop
     where
       refusal-none : (r : ℕ) → r ≡ 0 → none ≡ refusalOf r
       refusal-none r z = sym (ap refusalOf {x = r} {y = 0} z)

@@ -1,6 +1,6 @@
 -- The records of some bytes, offered one after the other to a session, in the words of the meaning.
 --
---   Offered b es bs s taken refusal nodes      after the query bytes b and the accepted events es the records of bs were offered up to the first refusal or
+--   Progress b es bs s taken refusal nodes      after the query bytes b and the accepted events es the records of bs were offered up to the first refusal or
 --                                              up to some record: `taken` of them were accepted and have listed `nodes`, they have led to the session s, and
 --                                              the next one was refused with the number `refusal`; 0 where none was
 --
@@ -19,7 +19,7 @@ use Rattle.query.specs.Decode.{decode}
 use Rattle.session.specs.declared.Session.{Session}
 use Rattle.promise.specs.Promise.{Of}
 
-pub record Offered (b : List ℕ) (es : List Event) (bs : List ℕ) (s : Session) (taken refusal : ℕ) (nodes : List ℕ) : Type 0 where
+pub record Progress (b : List ℕ) (es : List Event) (bs : List ℕ) (s : Session) (taken refusal : ℕ) (nodes : List ℕ) : Type 0 where
   -- the events accepted by then
   pub events : List Event
   pub reached : Of b events s

@@ -1,7 +1,7 @@
 -- A block of events, in the words of the meaning.
 --
---   Told b es bs n out f     f is what the first n records of bs, offered one after the other with the buffer out, must come to
---   fed-told                 what a block of events comes to (crate blocks, Fed) on a session that calls reach
+--   BlockProgress b es bs n out f     f is what the first n records of bs, offered one after the other with the buffer out, must come to
+--   fed-progress                 what a block of events comes to (crate blocks, Fed) on a session that calls reach
 --
 -- Assumes nothing.
 use Prim.Native.Nat.{ℕ, zero, suc, _+_, _*_, _≤_, _<_}
@@ -32,21 +32,19 @@ use Rattle.query.specs.Decode.{decode}
 use Rattle.session.specs.declared.Session.{Session}
 use Rattle.session.specs.declared.Answer.the-variants.{Refused, Taken}
 use Rattle.session.specs.Event.{Done, event}
-use Rattle.columns.specs.Hand as hand
-use Rattle.columns.specs.Hand.{buffer, length-records}
+use Rattle.columns.specs.Hand.{buffer}
 use Rattle.columns.specs.Right.{theSession, owed}
 use Rattle.promise.specs.Promise.{Of, sessionAfter, event-owed, event-of}
-use Rattle.records.specs.Write.{nodeBytes}
+use Rattle.records.specs.Write.{recordsOf, nodesIn}
+use Rattle.records.specs.Write.Laws.{length-records, Nodes, nodesIn-append}
 use Rattle.blocks.specs.Fed.{Fed, none as none-fed, one, oneOf, andThen, follow, followed, fed, Single}
 use Rattle.blocks.specs.Fed.Laws.{pick-known}
 use Rattle.blocks.specs.Step.Laws.{event-single}
-use Rattle.lines.specs.Text.{nodesIn}
-use Rattle.lines.specs.TextLaws.{recordsOf, Nodes, nodesIn-recordsOf}
-use Rattle.pick.specs.Offered.{Offered}
-use Rattle.pick.specs.Offered.Laws.{none-offered, offered-then}
+use Rattle.pick.specs.Progress.{Progress}
+use Rattle.pick.specs.Progress.Laws.{progress-none, progress-then}
 
-pub record Told (b : List ℕ) (es : List Stream.Event) (bs : List ℕ) (n : ℕ) (out : List ℕ) (f : Fed) : Type 0 where
-  pub offered : Offered b es bs (f .session) (f .taken) (f .refusal) (nodesIn (f .listed) (f .out))
+pub record BlockProgress (b : List ℕ) (es : List Stream.Event) (bs : List ℕ) (n : ℕ) (out : List ℕ) (f : Fed) : Type 0 where
+  pub offered : Progress b es bs (f .session) (f .taken) (f .refusal) (nodesIn (f .listed) (f .out))
   -- with room enough no block is left standing
   pub some : 0 < n → 516 ≤ length out → f .refusal ≡ 0 → 0 < f .taken
 
@@ -58,18 +56,12 @@ room-enough q d bytes room h = ap (λ (b : Bool). lowestOr b 1 (lowest (others q
     others : Query → Doc → Option Stream.Event → List Refusal
     others q d e = drop 1 (eventRefusals q d e 0)
 
--- a list record for each node that an event newly lists
-same-records : (ns : List ℕ) → hand.recordsOf ns ≡ recordsOf ns
-unfolding hand.recordsOf recordsOf
-same-records [] = refl
-same-records (n ∷ ns) = ap (λ (l : List ℕ). nodeBytes n ++ l) (same-records ns)
-
 -- the numbers of listed nodes have four bytes
 news-small : (q : Query) (d : Doc) (k : ℕ) → count d ≤ 16777215 → Nodes (drop k (listed q d))
 unfolding listed
 news-small q d k h i =
     let e : getD (drop k (listed q d)) i 0 ≡ getD (listed q d) (k + i) 0 = getD-drop k (listed q d) i 0 in
-    omega (arith, e, listed-within 1 (k + i) (standings q d), length-standings q d, h)
+    omega (arith, e, listed-within 1 (standings q d) (k + i), length-standings q d, h)
 
 -- the list records of ns at the start of a buffer, and then others behind them
 nodes-both :
@@ -77,21 +69,21 @@ nodes-both :
     nodesIn (length ns + k) (take (4 * length ns) (buffer ns out) ++ more) ≡ ns ++ nodesIn k more
 unfolding buffer
 nodes-both ns out more k h =
-    ap (λ (l : List ℕ). nodesIn (length ns + k) (l ++ more)) (take-at (hand.recordsOf ns) _ (4 * length ns) (length-records ns) ∙ same-records ns)
-    ∙ nodesIn-recordsOf ns more k h
+    ap (λ (l : List ℕ). nodesIn (length ns + k) (l ++ more)) (take-at (recordsOf ns) _ (4 * length ns) (length-records ns))
+    ∙ nodesIn-append ns more k h
 
-none-told : {b : List ℕ} {es : List Stream.Event} {s : Session} (bs out : List ℕ) (n : ℕ) → (0 < n → 516 ≤ length out → ⊥) → Of b es s → Told b es bs n out (none-fed s out)
+none-progress : {b : List ℕ} {es : List Stream.Event} {s : Session} (bs out : List ℕ) (n : ℕ) → (0 < n → 516 ≤ length out → ⊥) → Of b es s → BlockProgress b es bs n out (none-fed s out)
 unfolding nodesIn
-none-told bs out n idle o = record { offered = none-offered bs o; some = λ p w z. absurd (idle p w) }
+none-progress bs out n idle o = record { offered = progress-none bs o; some = λ p w z. absurd (idle p w) }
 
 -- one event that was refused, or taken and followed by others
 
 module _ {b : List ℕ} {es : List Stream.Event} (bs out : List ℕ) (n : ℕ) (long : 8 * suc n ≤ length bs) where
-  refused-told :
+  refused-progress :
       (r : ℕ) → lowest (refusals (decode b) (document es) (first bs)) ≡ some r → (r ≡ 0 → ⊥) → (s : Session) → Of b es s →
-      Told b es bs (suc n) out (one (Refused r) s out)
+      BlockProgress b es bs (suc n) out (one (Refused r) s out)
   unfolding nodesIn one offering
-  refused-told r e positive s o =
+  refused-progress r e positive s o =
       record {
         offered =
             record {
@@ -108,7 +100,7 @@ module _ {b : List ℕ} {es : List Stream.Event} (bs out : List ℕ) (n : ℕ) (
 
   module _ (e : lowest (refusals (decode b) (document es) (first bs)) ≡ none) (s : Session) (reached : Of b (after (decode b) es (first bs)) s) (ns : List ℕ)
       (listing : listed (decode b) (document es) ++ ns ≡ listed (decode b) (document (after (decode b) es (first bs)))) (nodes : Nodes ns) where
-    once : Offered b es bs s 1 0 ns
+    once : Progress b es bs s 1 0 ns
     once =
         record {
           events = after (decode b) es (first bs);
@@ -120,22 +112,22 @@ module _ {b : List ℕ} {es : List Stream.Event} (bs out : List ℕ) (n : ℕ) (
           listing = listing;
         }
 
-    taken-told :
-        (f : Fed) → Told b (after (decode b) es (first bs)) (drop 8 bs) n (drop (4 * length ns) (buffer ns out)) f →
-        Told b es bs (suc n) out (andThen (one (Taken (length ns)) s (buffer ns out)) f)
+    taken-progress :
+        (f : Fed) → BlockProgress b (after (decode b) es (first bs)) (drop 8 bs) n (drop (4 * length ns) (buffer ns out)) f →
+        BlockProgress b es bs (suc n) out (andThen (one (Taken (length ns)) s (buffer ns out)) f)
     unfolding andThen one once
-    taken-told f t =
+    taken-progress f t =
         record {
           offered =
-              subst (Offered b es bs (f .session) (1 + f .taken) (f .refusal)) (sym (nodes-both ns out (f .out) (f .listed) nodes))
-              (offered-then once (t .offered));
+              subst (Progress b es bs (f .session) (1 + f .taken) (f .refusal)) (sym (nodes-both ns out (f .out) (f .listed) nodes))
+              (progress-then once (t .offered));
           some = λ p w z. omega arith;
         }
 
 -- one event, by the lowest refusal that applies, and what comes next
 
 module _ {b : List ℕ} {es : List Stream.Event} {s : Session} (o : Of b es s) (n : ℕ) (bs out : List ℕ) (long : 8 * suc n ≤ length bs)
-    (room : 516 ≤ length out) (rest : (es′ : List Stream.Event) (s′ : Session) (out′ : List ℕ) → Of b es′ s′ → Told b es′ (drop 8 bs) n out′ (fed n s′ (drop 8 bs) out′)) where
+    (room : 516 ≤ length out) (rest : (es′ : List Stream.Event) (s′ : Session) (out′ : List ℕ) → Of b es′ s′ → BlockProgress b es′ (drop 8 bs) n out′ (fed n s′ (drop 8 bs) out′)) where
   abbrev news : List ℕ
   news = drop (length (listed (decode b) (document es))) (listed (decode b) (actIf (eventOf (take 8 bs)) (document es)))
 
@@ -163,34 +155,35 @@ module _ {b : List ℕ} {es : List Stream.Event} {s : Session} (o : Of b es s) (
         ap (λ (x : Option ℕ). listed (decode b) (document es) ++ handedBy (answerIf x (yield (decode b) (document es) (first bs)))) (sym l)
         ∙ call-listed (decode b) es (first bs)
 
-  next-told : (x : Option ℕ) → lowest (refusals (decode b) (document es) (first bs)) ≡ x →
+  next-progress : (x : Option ℕ) → lowest (refusals (decode b) (document es) (first bs)) ≡ x →
       event s (take 8 bs) out ≡ owed (decode b) (document es) (eventOf (take 8 bs)) out x →
-      Told b es bs (suc n) out (followed (event s (take 8 bs) out) next)
+      BlockProgress b es bs (suc n) out (followed (event s (take 8 bs) out) next)
   unfolding owed follow one
-  next-told (some r) l e =
+  next-progress (some r) l e =
       let single : Single (one (Refused r) (theSession (decode b) (document es)) out) = subst (λ (d : Done). Single (oneOf d)) e (event-single s (take 8 bs) out) in
-      subst (λ (d : Done). Told b es bs (suc n) out (followed d next)) (sym e)
-      (refused-told bs out n long r l (λ z. let w : _≡_ {A = ℕ} 0 1 = single .counted z in omega arith) (theSession (decode b) (document es))
+      subst (λ (d : Done). BlockProgress b es bs (suc n) out (followed d next)) (sym e)
+      (refused-progress bs out n long r l (λ z. let w : _≡_ {A = ℕ} 0 1 = single .counted z in omega arith) (theSession (decode b) (document es))
       (subst (Of b es) (o .is ∙ unfold sessionAfter in refl) o))
-  next-told none l e =
+  next-progress none l e =
+      let d : Done = event s (take 8 bs) out in
       let reached : Of b (after (decode b) es (first bs)) (theSession (decode b) (actIf (eventOf (take 8 bs)) (document es))) =
           subst (λ (fs : List Stream.Event). Of b fs (theSession (decode b) (actIf (eventOf (take 8 bs)) (document es)))) after-so
-          (subst (Of b (after (decode b) es (Call.event (take 8 bs) (length out)))) (ap (λ (d : Done). d .session) e) (event-of o (take 8 bs) out)) in
+          (subst (Of b (after (decode b) es (Call.event (take 8 bs) (length out)))) (ap (λ (d : Done). d .session) e) (event-of o (take 8 bs) out (record { answer = d .answer; session = d .session }) (d .out) refl)) in
       let few : count (actIf (eventOf (take 8 bs)) (document es)) ≤ 16777215 = subst (λ (d : Doc). count d ≤ 16777215) (document-so l) (reached .bounds .nodes) in
-      subst (λ (d : Done). Told b es bs (suc n) out (followed d next)) (sym e)
-      (taken-told bs out n long l (theSession (decode b) (actIf (eventOf (take 8 bs)) (document es))) reached news (listing-so l)
+      subst (λ (d : Done). BlockProgress b es bs (suc n) out (followed d next)) (sym e)
+      (taken-progress bs out n long l (theSession (decode b) (actIf (eventOf (take 8 bs)) (document es))) reached news (listing-so l)
       (news-small (decode b) (actIf (eventOf (take 8 bs)) (document es)) (length (listed (decode b) (document es))) few) _
       (rest (after (decode b) es (first bs)) (theSession (decode b) (actIf (eventOf (take 8 bs)) (document es))) _ reached))
 
-pub fed-told :
-    {b : List ℕ} {es : List Stream.Event} {s : Session} (n : ℕ) (bs out : List ℕ) → Of b es s → 8 * n ≤ length bs → Told b es bs n out (fed n s bs out)
+pub fed-progress :
+    {b : List ℕ} {es : List Stream.Event} {s : Session} (n : ℕ) (bs out : List ℕ) → Of b es s → 8 * n ≤ length bs → BlockProgress b es bs n out (fed n s bs out)
 unfolding fed
-fed-told zero bs out o h = none-told bs out 0 (λ p w. omega arith) o
-fed-told {b} {es} {s} (suc n) bs out o h =
-    pick-known (Told b es bs (suc n) out) (ltb (length out) 516) _ _
-    (λ t. none-told bs out (suc n) (λ p w. omega (arith, ltb-true (length out) 516 t)) o)
+fed-progress zero bs out o h = none-progress bs out 0 (λ p w. omega arith) o
+fed-progress {b} {es} {s} (suc n) bs out o h =
+    pick-known (BlockProgress b es bs (suc n) out) (ltb (length out) 516) _ _
+    (λ t. none-progress bs out (suc n) (λ p w. omega (arith, ltb-true (length out) 516 t)) o)
     (λ t.
-    next-told o n bs out h (ltb-false (length out) 516 t)
-    (λ es′ s′ out′ o′. fed-told n (drop 8 bs) out′ o′ (omega (arith, length-drop 8 bs)))
+    next-progress o n bs out h (ltb-false (length out) 516 t)
+    (λ es′ s′ out′ o′. fed-progress n (drop 8 bs) out′ o′ (omega (arith, length-drop 8 bs)))
     (lowest (refusals (decode b) (document es) (first bs))) refl
-    (owed-so o n bs out h (ltb-false (length out) 516 t) (λ es′ s′ out′ o′. fed-told n (drop 8 bs) out′ o′ (omega (arith, length-drop 8 bs)))))
+    (owed-so o n bs out h (ltb-false (length out) 516 t) (λ es′ s′ out′ o′. fed-progress n (drop 8 bs) out′ o′ (omega (arith, length-drop 8 bs)))))

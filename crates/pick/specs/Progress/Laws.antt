@@ -1,12 +1,12 @@
 -- Offers that follow each other.
 --
---   none-offered        before the first record
---   offered-then        TWO BLOCKS ONE AFTER THE OTHER ARE ONE STREAM
---   offered-more        bytes that come behind change nothing, as long as no record was refused
---   offered-short       what is left is under 8 bytes: a bad record
---   offered-all, offered-stopped     all is taken, or one was refused: what offering all of the bytes comes to
---   offered-count       each taken record is an event
---   offered-few         no more than 33,554,430 events are accepted
+--   progress-none        before the first record
+--   progress-then        TWO BLOCKS ONE AFTER THE OTHER ARE ONE STREAM
+--   progress-more        bytes that come behind change nothing, as long as no record was refused
+--   progress-short       what is left is under 8 bytes: a bad record
+--   progress-all, progress-stopped     all is taken, or one was refused: what offering all of the bytes comes to
+--   progress-count       each taken record is an event
+--   progress-few         no more than 33,554,430 events are accepted
 --
 -- Assumes nothing.
 use Prim.Native.Nat.{ℕ, _+_, _-_, _*_, _/_, _≤_, _<_}
@@ -24,11 +24,11 @@ use Rattle.meaning.specs.Offering.Laws.{offering-then, offering-stopped, offeri
 use Rattle.query.specs.Decode.{decode}
 use Rattle.session.specs.declared.Session.{Session}
 use Rattle.promise.specs.Promise.{Of}
-use Rattle.pick.specs.Offered.{Offered}
+use Rattle.pick.specs.Progress.{Progress}
 
-pub none-offered : {b : List ℕ} {es : List Event} {s : Session} (bs : List ℕ) → Of b es s → Offered b es bs s 0 0 []
+pub progress-none : {b : List ℕ} {es : List Event} {s : Session} (bs : List ℕ) → Of b es s → Progress b es bs s 0 0 []
 unfolding offering
-none-offered {b} {es} bs o =
+progress-none {b} {es} bs o =
     record {
       events = es;
       reached = o;
@@ -39,10 +39,10 @@ none-offered {b} {es} bs o =
       listing = append-nil (listed (decode b) (document es));
     }
 
-module _ {b : List ℕ} {es : List Event} {bs : List ℕ} {s : Session} {t : ℕ} {ns : List ℕ} (o : Offered b es bs s t 0 ns) where
-  pub offered-then :
-      {s′ : Session} {t′ r : ℕ} {ns′ : List ℕ} → Offered b (o .events) (drop (8 * t) bs) s′ t′ r ns′ → Offered b es bs s′ (t + t′) r (ns ++ ns′)
-  offered-then {s′} {t′} {r} {ns′} p =
+module _ {b : List ℕ} {es : List Event} {bs : List ℕ} {s : Session} {t : ℕ} {ns : List ℕ} (o : Progress b es bs s t 0 ns) where
+  pub progress-then :
+      {s′ : Session} {t′ r : ℕ} {ns′ : List ℕ} → Progress b (o .events) (drop (8 * t) bs) s′ t′ r ns′ → Progress b es bs s′ (t + t′) r (ns ++ ns′)
+  progress-then {s′} {t′} {r} {ns′} p =
       let at : 8 * t + 8 * t′ ≡ 8 * (t + t′) = omega arith in
       let rest : drop (8 * t′) (drop (8 * t) bs) ≡ drop (8 * (t + t′)) bs = drop-drop (8 * t′) (8 * t) bs ∙ ap (λ (k : ℕ). drop k bs) at in
       record {
@@ -58,8 +58,8 @@ module _ {b : List ℕ} {es : List Event} {bs : List ℕ} {s : Session} {t : ℕ
             ∙ p .listing;
       }
 
-  pub offered-more : (more : List ℕ) → Offered b es (bs ++ more) s t 0 ns
-  offered-more more =
+  pub progress-more : (more : List ℕ) → Progress b es (bs ++ more) s t 0 ns
+  progress-more more =
       record {
         events = o .events;
         reached = o .reached;
@@ -71,8 +71,8 @@ module _ {b : List ℕ} {es : List Event} {bs : List ℕ} {s : Session} {t : ℕ
       }
 
   -- "Leftover bytes under 8 are a bad record."
-  pub offered-short : 8 * t < length bs → length bs < 8 * t + 8 → Offered b es bs s t 2 ns
-  offered-short beyond few =
+  pub progress-short : 8 * t < length bs → length bs < 8 * t + 8 → Progress b es bs s t 2 ns
+  progress-short beyond few =
       record {
         events = o .events;
         reached = o .reached;
@@ -85,21 +85,21 @@ module _ {b : List ℕ} {es : List Event} {bs : List ℕ} {s : Session} {t : ℕ
 
 -- the whole of the bytes
 
-module _ {b bs : List ℕ} {s : Session} {t r : ℕ} {ns : List ℕ} (o : Offered b [] bs s t r ns) where
-  pub offered-all : r ≡ 0 → length bs ≤ 8 * t → offeringAll (decode b) bs ≡ record { events = o .events; refusal = none }
-  offered-all z h =
+module _ {b bs : List ℕ} {s : Session} {t r : ℕ} {ns : List ℕ} (o : Progress b [] bs s t r ns) where
+  pub progress-all : r ≡ 0 → length bs ≤ 8 * t → offeringAll (decode b) bs ≡ record { events = o .events; refusal = none }
+  progress-all z h =
       let n : (length bs + 7) / 8 ≡ t = omega (arith, o .within) in
       ap (λ (k : ℕ). offering (decode b) k [] bs) n ∙ o .accepted
 
-  pub offered-stopped : (r ≡ 0 → ⊥) → offeringAll (decode b) bs ≡ record { events = o .events; refusal = some r }
-  offered-stopped z =
+  pub progress-stopped : (r ≡ 0 → ⊥) → offeringAll (decode b) bs ≡ record { events = o .events; refusal = some r }
+  progress-stopped z =
       let n : (length bs + 7) / 8 ≡ (t + 1) + ((length bs + 7) / 8 - (t + 1)) = omega (arith, o .left z) in
       ap (λ (k : ℕ). offering (decode b) k [] bs) n
       ∙ offering-stopped (decode b) (t + 1) _ [] (o .events) r bs
       (offering-then (decode b) t 1 [] (o .events) bs (o .accepted) ∙ o .stopped z)
 
-  pub offered-count : length (o .events) ≡ t
-  offered-count = length-offered (decode b) t [] (o .events) bs (o .accepted) ∙ zero-add t
+  pub progress-count : length (o .events) ≡ t
+  progress-count = length-offered (decode b) t [] (o .events) bs (o .accepted) ∙ zero-add t
 
-  pub offered-few : t ≤ 33554430
-  offered-few = omega (arith, offered-count, most-events (decode b) (o .events) (o .reached .stream) (o .reached .bounds))
+  pub progress-few : t ≤ 33554430
+  progress-few = omega (arith, progress-count, most-events (decode b) (o .events) (o .reached .stream) (o .reached .bounds))
