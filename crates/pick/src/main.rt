@@ -12,6 +12,7 @@ ghost use Rattle.io.specs.Counts.{Counts};
 ghost use Rattle.lines.specs.Put.{Put};
 ghost use Rattle.lines.specs.Text.{linesOf, nodesIn};
 ghost use Rattle.promise.specs.Promise.{Of};
+ghost use Rattle.system.specs.Marks.{Handed};
 ghost use Rattle.pick.specs.Program.{Outcome, Answered};
 ghost use Rattle.pick.specs.Line.{queryLine, lastLine};
 ghost use Rattle.pick.specs.State.{Within, Begun, leftoverOf, goesOn, ReadMore, Worked, Turned, WorkedAll, EventsAnswered};
@@ -142,6 +143,14 @@ fn read_more(file: File, state: State, input: &mut [u8]) -> State
     }
 }
 
+// Hands the first `length` bytes of the text to standard output.
+fn write_text(text: &[u8], length: usize) -> bool
+    requires { ⌜ Counts length (now text) ⌝ }
+    ensures { λ r. ⌜ Handed (take length (now (text .entry))) r ⌝ }
+{
+    system::write(&text[..length])
+}
+
 // Works on what is read, and writes the lines.
 fn work_block(state: State, input: &[u8], out: &mut [u8], text: &mut [u8]) -> State
     requires { ⌜ Within state (length (now input)) × (11 * length (now out) ≤ 4 * length (now text)) ⌝ }
@@ -153,7 +162,7 @@ fn work_block(state: State, input: &[u8], out: &mut [u8], text: &mut [u8]) -> St
     let session = state.session;
     let block = work(session, &input[from..end], out, text);
     let length = block.length;
-    let written = system::write(&text[..length]);
+    let written = write_text(&*text, length);
     let ran = block.ran;
     let next = ran.session;
     let count = ran.taken;
@@ -262,7 +271,7 @@ fn answer_files()
     let n = system::read_full(file, &mut query);
     system::close(file);
     let length = answer(&query[..n], &mut text);
-    system::write(&text[..length]);
+    write_text(&text, length);
 }
 
 fn main() {

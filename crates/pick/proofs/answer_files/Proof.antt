@@ -31,19 +31,16 @@ slice-aggregate-answer-2 c = search needs
 answer-requires : tie.Need-answer-requires
 answer-requires c κs = search needs
 
-array-share-prefix-text : tie.Need-array-share-prefix-text
-array-share-prefix-text c = search needs
+slice-aggregate-write-text : tie.Need-slice-aggregate-write-text
+slice-aggregate-write-text c = search needs
 
-slice-aggregate-write : tie.Need-slice-aggregate-write
-slice-aggregate-write c = search needs
-
-write-requires : tie.Need-write-requires
-write-requires c κs = search needs
+write-text-requires : tie.Need-write-text-requires
+write-text-requires c κs = search needs
 
 returns : tie.Need-returns
 returns c =
     let read = c .before .before .before .before .before .before .before .before .read-full .ensures in
-    outcome-written _ _ _ _ (c .before .before .before .before .before .before .before .before .before .before .open .ensures) (read .0) _ (c .write .ensures) (c .before .before .before .answer .ensures .0)
+    outcome-written _ _ _ _ (c .before .before .before .before .before .before .before .before .before .before .open .ensures) (read .0) _ (c .write-text .ensures) (c .before .before .before .answer .ensures .0)
 
 pub answer-files-spec : {M : Type 1} → statement M
 answer-files-spec =
@@ -58,7 +55,6 @@ answer-files-spec =
     slice-aggregate-answer
     slice-aggregate-answer-2
     answer-requires
-    array-share-prefix-text
-    slice-aggregate-write
-    write-requires
+    slice-aggregate-write-text
+    write-text-requires
     returns)

@@ -18,14 +18,8 @@ part-work-end c = search needs
 work-requires : tie.Need-work-requires
 work-requires c κs = search needs
 
-slice-reshare-prefix-write : tie.Need-slice-reshare-prefix-write
-slice-reshare-prefix-write c = search needs
-
-slice-aggregate-write : tie.Need-slice-aggregate-write
-slice-aggregate-write c = search needs
-
-write-requires : tie.Need-write-requires
-write-requires c κs = search needs
+write-text-requires : tie.Need-write-text-requires
+write-text-requires c κs = search needs
 
 mul-t15 : tie.Need-mul-t15
 mul-t15 c = search needs
@@ -52,7 +46,7 @@ returns c =
     let start = c .before .before .before .before .before .before .before .before .before .before .before .before .before .before .before .before .before in
     let work = c .before .before .before .before .before .before .before .before .before .work in
     worked-so (start .args .state) (start .args .input .now) (start .args .out .now) _ _ _ (work .result .length) _ (start .pre .0 .0) (work .ensures .1 .1 .1)
-    (work .ensures .1 .1 .0) (work .ensures .0) (work .ensures .1 .0 .0) (c .before .before .before .write .ensures)
+    (work .ensures .1 .1 .0) (work .ensures .0) (work .ensures .1 .0 .0) (c .before .before .before .write-text .ensures)
 
 pub work-block-spec : {M : Type 1} → statement M
 work-block-spec =
@@ -62,9 +56,7 @@ work-block-spec =
     part-work-start
     part-work-end
     work-requires
-    slice-reshare-prefix-write
-    slice-aggregate-write
-    write-requires
+    write-text-requires
     mul-t15
     add-t24
     add-t26
