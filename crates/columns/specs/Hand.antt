@@ -1,6 +1,5 @@
 -- Handing out, on the columns of the waiting nodes and in the buffer.
 --
---   recordsOf ns        the list records of the nodes ns
 --   buffer ns out       out with the list records of ns at its start, the rest unchanged
 --   write-columns       the loop that writes
 --   hand-columns        the first k nodes are handed out
@@ -18,16 +17,13 @@ use lib.Seq.{sets, sets-eq, take-at, drop-at, drop-drop, length-take-le}
 use borrow.Author.Tests.{eq-eqb, ne-eqb}
 use Rattle.choice.specs.Pick.{pick-true, pick-false}
 use Rattle.records.specs.Write.{nodeBytes}
+unfoldable pub use Rattle.records.specs.Write.{recordsOf}
 use Rattle.engine.specs.Quick.{Waiting}
 use Rattle.queue.specs.Loops.{Queue, cleared, shifted, written}
 use Rattle.queue.specs.Queue.{Handed, dropped, handedOut, Joined, joined}
 use Rattle.columns.specs.Lists.{zeros, column, column-set}
 use Rattle.columns.specs.Front.{queueOf}
 use Rattle.columns.specs.Slots.{clear-law, shifted-column}
-
-unfoldable pub recordsOf : List ℕ → List ℕ
-recordsOf [] = []
-recordsOf (n ∷ ns) = nodeBytes n ++ recordsOf ns
 
 -- "those nodes stand as list records, in rising order, at the start of the lent output buffer, and the rest of the buffer is unchanged"
 unfoldable pub buffer : List ℕ → List ℕ → List ℕ

@@ -6,6 +6,7 @@
 --
 -- Assumes nothing.
 use Prim.Native.Nat.{ℕ, suc, _+_, _-_, _^_, _≤_, _<_}
+use native.Mathlib.Nat.{add-zero}
 use native.Mathlib.Omega.{arith}
 use mathlib.Core.Path.{_≡_, refl, sym, ap, ap₂, _∙_, subst}
 use mathlib.Core.Bool.{Bool, true, false, not}
@@ -26,9 +27,6 @@ use Rattle.columns.specs.Lists.{zeros, column}
 use Rattle.columns.specs.Leaves.{up-moved}
 use Rattle.columns.specs.Front.{queueOf, head-at}
 use Rattle.columns.specs.Slots.{one-more, put, skip, clear-law}
-
-plus-zero : (w : ℕ) → w + 0 ≡ w
-plus-zero w = omega arith
 
 abbrev nodes : List Waiting → List ℕ
 nodes ws = map (λ w. w .node) ws
@@ -117,7 +115,7 @@ module _ (P : Plan) (m poss to : ℕ) (small : m < 2 ^ 32) (zn zd : List ℕ) wh
   unfolding stay keep movedUp
   move-columns [] i w q c ec h ln ld ll en ed =
       record {
-        end = sym (plus-zero w);
+        end = sym (add-zero w);
         node = sym (append-nil _);
         need = sym (append-nil _);
         level = sym (append-nil _);

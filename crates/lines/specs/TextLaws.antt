@@ -6,7 +6,6 @@
 --   lines-short         so many lines have at most 11 bytes each
 --   put-next            one line more is put
 --   put-end, put-refused, put-refused-at      a last line is put, part by part
---   recordsOf ns        the list records of ns, end to end
 --   nodesIn-recordsOf   nodes that were written as list records are read as the nodes, whatever stands behind them
 --
 -- Assumes nothing.
@@ -17,7 +16,8 @@ use native.Mathlib.Omega.{arith}
 use mathlib.Core.Path.{_≡_, refl, sym, ap, ap₂, _∙_}
 use mathlib.Core.List.{List, [], _∷_, _++_, append-nil, append-assoc}
 use lib.ListN.{length, getD, length-append}
-use Rattle.records.specs.Write.{nodeBytes}
+use Rattle.meaning.specs.Record.{Bytes}
+use Rattle.records.specs.Write.{recordsOf}
 use Rattle.lines.specs.Decimal.{decimal}
 use Rattle.lines.specs.DecimalLaws.{length-short}
 use Rattle.lines.specs.Put.{Put}
@@ -34,10 +34,6 @@ length-line n = length-append (decimal n) (10 ∷ [])
 
 pub line-short : (k n : ℕ) → n < 10 ^ suc k → length (line n) ≤ k + 2
 line-short k n h = omega (arith, length-line n, length-short k n h)
-
--- a byte's value is under 256
-abbrev pub Bytes : List ℕ → Type 0
-Bytes bs = (i : ℕ) → getD bs i 0 < 256
 
 nodeAt-bound : (bs : List ℕ) (i : ℕ) → Bytes bs → nodeAt bs i < 4294967296
 nodeAt-bound bs i h = omega (arith, h (4 * i), h (4 * i + 1), h (4 * i + 2), h (4 * i + 3))
@@ -69,10 +65,6 @@ module _ {l l′ l″ : List ℕ} {at e r : ℕ} where
       Put l at refusedWord m i → Put m i (decimal n) m′ j → Put m′ j atWord l′ e → Put l′ e (line x) l″ r → Put l at (refusedAtLine k x) l″ r
   unfolding refusedAtLine
   put-refused-at n k x is p q s t = rw (← is) (put-then p (put-then q (put-then s t)))
-
-unfoldable pub recordsOf : List ℕ → List ℕ
-recordsOf [] = []
-recordsOf (n ∷ ns) = nodeBytes n ++ recordsOf ns
 
 -- a node has four bytes
 abbrev pub Nodes : List ℕ → Type 0

@@ -21,13 +21,10 @@ use Rattle.meaning.specs.Standing.{listed}
 use Rattle.engine.specs.Need.{Need, itself}
 use Rattle.engine.specs.Engine.{Frame, Place, Waiting, State, keep, front, past, grow, certain, alive, settle, newcomer, openModel, exact, move, moveWaiting, closeModel}
 use Rattle.engine.specs.Queue.{Steady, steady, past-later, front-later}
-use Rattle.engine.specs.StateOf.{ops, framesOf, places, number, framesAt, nodes, stateOf}
+use Rattle.engine.specs.StateOf.{ops, framesOf, places, number, numberOf, framesAt, nodes, stateOf}
 use Rattle.engine.specs.StateOf.Frames.{frames-open, frames-close, length-frames}
 use Rattle.engine.specs.StateOf.Places.{places-open, places-close, length-places}
 use Rattle.engine.specs.StateOf.Standings.{certain-sure, alive-open, inside, front-listed}
-
-abbrev numberOf : Waiting Need → ℕ
-numberOf w = w .number
 
 -- numbering
 

@@ -1,3 +1,4 @@
+-- `all_go` is `allGo`, by its one test. Assumes nothing.
 use Rattle.queue.specs.Queue.{allGo}
 use Rattle.choice.specs.Pick.{pick-yes, pick-no}
 use mathlib.Core.Path.{refl}

@@ -1,3 +1,4 @@
+-- `full` is `isFull`, test by test. Assumes nothing.
 use Rattle.queue.specs.Queue.{isFull}
 use Rattle.choice.specs.Pick.{pick-yes, pick-no}
 use mathlib.Core.Path.{refl}
