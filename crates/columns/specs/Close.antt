@@ -21,6 +21,7 @@ use borrow.Author.Tests.{lt-ltb, le-ltb}
 use Rattle.engine.specs.Every.{Every, eNil, eCons, every-left, every-append}
 use Rattle.engine.specs.Engine.{keepIf, keep}
 use Rattle.plan.specs.Plan as Engine
+use Rattle.plan.specs.Planned.{columns}
 use Rattle.engine.specs.Quick as Quick
 use Rattle.engine.specs.Quick.{Frame, Waiting, State, metAt, possAt, wentIf, Cut, cut, stay, closingFrom, closingAt, closing, closes, quickClose}
 use Rattle.engine.specs.Quick.Lists.{cut-append}
@@ -217,7 +218,7 @@ module _ (P : Engine.Plan) (fs : List Frame) (g : Frame) (ws : List Waiting) (k 
 
       -- THE CLOSE
       pub close-taken : closeAt (sessionOf P s) out (poppedIn (sessionOf P s)) ≡ done P (quickClose P s) out
-      unfolding closeAt closeMoved closeLooked closeTaken quickClose closes closing closingAt closingFrom
+      unfolding columns closeAt closeMoved closeLooked closeTaken quickClose closes closing closingAt closingFrom
       close-taken =
           ap (closeAt (sessionOf P s) out) close-frames
           ∙ ap₂ (λ x y. closeMoved (sessionOf P s) out (framesOf P fs (64 - length fs)) (closedUp (P .deep) (P .main) x y D (length ws) (waitingOf s))) met-read poss-read

@@ -1,12 +1,13 @@
 -- Looking through the columns of the waiting nodes: which are certain, how many at the front are, and where those of a level begin.
 --
---   queueOf ws n        the arrays of the waiting nodes ws, with n unused slots
+--   queueOf ws n        the arrays of the waiting nodes ws, with n unused slots;  same-queue: arrays that are equal, one by one
 --   certain-columns     whether a node is certain
 --   front-columns       how many at the front are
 --   suffix-columns      where those of the level l begin, at the end of the queue
 --
 -- Assumes nothing.
 use Prim.Native.Nat.{ℕ, zero, suc, pred, _+_, _-_, _≤_}
+use native.Mathlib.Nat.{zero-add, add-zero}
 use native.Mathlib.Omega.{arith}
 use mathlib.Core.Path.{_≡_, refl, sym, ap, ap₂, _∙_}
 use mathlib.Core.Bool.{Bool, true, false, not}
@@ -25,7 +26,7 @@ use Rattle.engine.specs.Quick.{Frame, Waiting, metAt, sureAt, certainIf, certai
 use Rattle.stack.specs.Loops.{lastGiven}
 use Rattle.queue.specs.Loops.{isCertain, frontFrom, suffixFrom, Queue}
 use Rattle.columns.specs.Lists.{zeros, getD-zeros, column}
-use Rattle.columns.specs.Leaves.{last-given}
+use Rattle.columns.specs.Slots.{one-more}
 
 abbrev pub queueOf : List Waiting → ℕ → Queue
 queueOf ws n = record { node = column (λ w. w .node) ws n; need = column (λ w. w .need) ws n; level = column (λ w. w .level) ws n }
@@ -44,16 +45,15 @@ module _ (P : Plan) (fs : List Frame) (a b : ℕ) where
   sures = P .first ∷ column (λ f. f .sure) fs b
 
   itself-certain :
-      (l : ℕ) → pick (eqb l 0) false (lastGiven (getD mets (l - 1) 0) (getD sures (l - 1) 0)) ≡ Plan.lastGiven (metAt fs l) (sureAt P fs (pred l))
+      (l : ℕ) → pick (eqb l 0) false (lastGiven (getD mets (l - 1) 0) (getD sures (l - 1) 0)) ≡ lastGiven (metAt fs l) (sureAt P fs (pred l))
   unfolding metAt sureAt
-  itself-certain zero = pick-true (eqb 0 0) _ _ (eq-eqb 0 0 refl) ∙ sym (none-given _) ∙ last-given 0 _
+  itself-certain zero = pick-true (eqb 0 0) _ _ (eq-eqb 0 0 refl) ∙ sym (none-given _)
   itself-certain (suc l) =
       let e : suc l - 1 ≡ l = omega arith in
       pick-false (eqb (suc l) 0) _ _ (ne-eqb (suc l) 0 (λ z. absurd (omega arith)))
       ∙ ap₂ lastGiven
       (ap (λ j. getD mets j 0) e ∙ getD-zeros (map (λ f. f .met) fs) a l)
       (ap (λ j. getD sures j 0) e ∙ getD-zeros (P .first ∷ map (λ f. f .sure) fs) b l)
-      ∙ last-given _ _
 
   certain-either :
       (t : Bool) (l need : ℕ) →
@@ -68,11 +68,13 @@ module _ (P : Plan) (fs : List Frame) (a b : ℕ) where
 
 -- the front
 
-plus-zero : (i : ℕ) → i + 0 ≡ i
-plus-zero i = omega arith
+pub same-queue :
+    {c d e f g h : List ℕ} → c ≡ d → e ≡ f → g ≡ h →
+    _≡_ {A = Queue} (record { node = c; need = e; level = g }) (record { node = d; need = f; level = h })
+same-queue q r s = rw (q, r, s) refl
 
 pub head-at : (l : List ℕ) (i x : ℕ) (xs : List ℕ) → drop i l ≡ x ∷ xs → getD l i 0 ≡ x
-head-at l i x xs e = ap (λ k. getD l k 0) (sym (plus-zero i)) ∙ sym (getD-drop i l 0 0) ∙ ap (λ m. getD m 0 0) e
+head-at l i x xs e = ap (λ k. getD l k 0) (sym (add-zero i)) ∙ sym (getD-drop i l 0 0) ∙ ap (λ m. getD m 0 0) e
 
 pub tail-at : (l : List ℕ) (i x : ℕ) (xs : List ℕ) → drop i l ≡ x ∷ xs → drop (i + 1) l ≡ xs
 tail-at l i x xs e = sym (drop-drop 1 i l) ∙ ap (drop 1) e
@@ -80,17 +82,14 @@ tail-at l i x xs e = sym (drop-drop 1 i l) ∙ ap (drop 1) e
 module _ (met sure need level zn zl : List ℕ) (c : Waiting → Bool) where
   front-either : (t : Bool) (i k j : ℕ) → j ≡ i + 1 + k → pick t j i ≡ i + countedIf t k
   unfolding pick countedIf
-  front-either true i k j e = e ∙ more i k
-    where
-      more : (i k : ℕ) → i + 1 + k ≡ i + suc k
-      more i k = omega arith
-  front-either false i k j e = sym (plus-zero i)
+  front-either true i k j e = e ∙ one-more i k
+  front-either false i k j e = sym (add-zero i)
 
   front-from :
       {ws : List Waiting} (i : ℕ) → Every (λ w. isCertain met sure (w .level) (w .need) ≡ c w) ws → drop i need ≡ map (λ w. w .need) ws ++ zn →
       drop i level ≡ map (λ w. w .level) ws ++ zl → frontFrom met sure need level (length ws) i ≡ i + counted c ws
   unfolding frontFrom counted
-  front-from i eNil en el = sym (plus-zero i)
+  front-from i eNil en el = sym (add-zero i)
   front-from i (eCons {x} {xs} h t) en el =
       ap (λ b. pick b (frontFrom met sure need level (length xs) (i + 1)) i)
       (ap₂ (isCertain met sure) (head-at level i _ _ el) (head-at need i _ _ en) ∙ h)
@@ -100,10 +99,7 @@ pub front-columns :
     (P : Plan) (fs : List Frame) (a b : ℕ) {ws : List Waiting} (n : ℕ) → Every (λ w. w .level ≤ 64) ws →
     frontFrom (mets P fs a b) (sures P fs a b) (queueOf ws n .need) (queueOf ws n .level) (length ws) 0 ≡ counted (certain P fs) ws
 front-columns P fs a b {ws} n h =
-    front-from (mets P fs a b) (sures P fs a b) _ _ (zeros n) (zeros n) (certain P fs) 0 (every-map (certain-columns P fs a b) h) refl refl ∙ zero-plus _
-  where
-    zero-plus : (k : ℕ) → 0 + k ≡ k
-    zero-plus k = omega arith
+    front-from (mets P fs a b) (sures P fs a b) _ _ (zeros n) (zeros n) (certain P fs) 0 (every-map (certain-columns P fs a b) h) refl refl ∙ zero-add _
 
 -- the nodes of a level
 

@@ -7,6 +7,7 @@
 --
 -- Assumes nothing.
 use Prim.Native.Nat.{ℕ, zero, suc, _+_, _-_, _*_, _≤_}
+use native.Mathlib.Nat.{zero-add}
 use native.Mathlib.Omega.{arith}
 use mathlib.Core.Path.{_≡_, refl, sym, ap, ap₂, _∙_}
 use mathlib.Core.Bool.{Bool, true, false}
@@ -22,7 +23,7 @@ use Rattle.engine.specs.Quick.{Waiting}
 use Rattle.queue.specs.Loops.{Queue, cleared, shifted, written}
 use Rattle.queue.specs.Queue.{Handed, dropped, handedOut, Joined, joined}
 use Rattle.columns.specs.Lists.{zeros, column, column-set}
-use Rattle.columns.specs.Front.{queueOf}
+use Rattle.columns.specs.Front.{queueOf, same-queue}
 use Rattle.columns.specs.Slots.{clear-law, shifted-column}
 
 -- "those nodes stand as list records, in rising order, at the start of the lent output buffer, and the rest of the buffer is unchanged"
@@ -67,7 +68,7 @@ module _ (node : List ℕ) (out : List ℕ) where
       here [] = refl
       here (n ∷ ns) = here ns
 
-buffer-none : (out : List ℕ) → buffer [] out ≡ out
+pub buffer-none : (out : List ℕ) → buffer [] out ≡ out
 unfolding buffer recordsOf
 buffer-none out = refl
 
@@ -99,13 +100,10 @@ module _ (g : Waiting → ℕ) (ws : List Waiting) (k n : ℕ) where
         ∙ shifted-column (map g (take k ws)) (map g (drop k ws)) (zeros n) k (length ws) taken left
         ∙ ap (λ l. map g (drop k ws) ++ l) (replicate-append-replicate k n 0)
 
-three : {c d e f g h : List ℕ} → c ≡ d → e ≡ f → g ≡ h → _≡_ {A = Queue} (record { node = c; need = e; level = g }) (record { node = d; need = f; level = h })
-three q r s = rw (q, r, s) refl
-
 module _ (ws : List Waiting) (n : ℕ) (out : List ℕ) where
   module _ (k : ℕ) (h : k ≤ length ws) (room : 4 * k ≤ length out) where
     drop-queue : dropped k (length ws) (queueOf ws n) ≡ queueOf (drop k ws) (k + n)
-    drop-queue = three (drop-column (λ w. w .node) ws k n h) (drop-column (λ w. w .need) ws k n h) (drop-column (λ w. w .level) ws k n h)
+    drop-queue = same-queue (drop-column (λ w. w .node) ws k n h) (drop-column (λ w. w .need) ws k n h) (drop-column (λ w. w .level) ws k n h)
 
     write-front : written (queueOf ws n .node) k 0 out ≡ buffer (map (λ w. w .node) (take k ws)) out
     write-front =
@@ -118,14 +116,11 @@ module _ (ws : List Waiting) (n : ℕ) (out : List ℕ) where
     unfolding handedOut
     hand-some f = pick-false (eqb k 0) _ _ (ne-eqb k 0 f) ∙ ap₂ (λ (q : Queue) (o : List ℕ). record { queue = q; out = o }) drop-queue write-front
 
-  zero-plus : (m : ℕ) → 0 + m ≡ m
-  zero-plus m = omega arith
-
   hand-none : handedOut 0 (length ws) (queueOf ws n) out ≡ record { queue = queueOf (drop 0 ws) (0 + n); out = buffer (map (λ w. w .node) (take 0 ws)) out }
   unfolding handedOut
   hand-none =
       pick-true (eqb 0 0) _ _ (eq-eqb 0 0 refl)
-      ∙ ap₂ (λ (m : ℕ) (o : List ℕ). record { queue = queueOf ws m; out = o }) (sym (zero-plus n)) (sym (buffer-none out))
+      ∙ ap₂ (λ (m : ℕ) (o : List ℕ). record { queue = queueOf ws m; out = o }) (sym (zero-add n)) (sym (buffer-none out))
 
   -- THE HANDING OUT
   pub hand-columns :
@@ -158,7 +153,7 @@ module _ (ws : List Waiting) (new : Waiting) (n : ℕ) (out : List ℕ) (room : 
       let e : length (map (λ w. w .node) ws) ≡ length ws = length-map ws _ in
       pick-true true _ _ refl
       ∙ ap₂ (λ (q : Queue) (o : List ℕ). record { count = 0; queue = q; out = o })
-      (three (clear-all (λ w. w .node) ws n) (clear-all (λ w. w .need) ws n) (clear-all (λ w. w .level) ws n))
+      (same-queue (clear-all (λ w. w .node) ws n) (clear-all (λ w. w .need) ws n) (clear-all (λ w. w .level) ws n))
       (ap (λ a. sets (written a (length ws) 0 out) (4 * length ws) (nodeBytes (new .node))) (ap (λ l. map (λ w. w .node) ws ++ l) refl)
       ∙ ap (λ o. sets o (4 * length ws) (nodeBytes (new .node))) (write-columns ws [] (zeros n) out (omega arith))
       ∙ ap (λ j. sets (buffer (map (λ w. w .node) ws) out) (4 * j) (nodeBytes (new .node))) (sym e)
@@ -197,4 +192,4 @@ module _ (ws : List Waiting) (new : Waiting) (n : ℕ) (out : List ℕ) (room : 
           out = x .out;
         }) (hand-columns ws n out k h (omega arith))
         ∙ ap₂ (λ (j : ℕ) (q : Queue). record { count = j; queue = q; out = buffer (map (λ w. w .node) (take k ws)) out }) c
-        (three (add-column (λ w. w .node) (new .node) m e refl) (add-column (λ w. w .need) 0 m e (sym itself)) (add-column (λ w. w .level) (new .level) m e refl))
+        (same-queue (add-column (λ w. w .node) (new .node) m e refl) (add-column (λ w. w .need) 0 m e (sym itself)) (add-column (λ w. w .level) (new .level) m e refl))

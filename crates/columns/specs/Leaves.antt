@@ -1,6 +1,6 @@
 -- The code's set operations are the engine's, the plan's tables having unused slots after the query's steps.
 --
---   named-passing, meets-meeting, turn-turned, last-given, up-moved      each operation
+--   named-passing, meets-meeting, turn-turned, up-moved      each operation
 --
 -- Assumes nothing.
 use Prim.Native.Nat.{ℕ, _*_, _%_, _^_, _<_}
@@ -16,7 +16,7 @@ use Rattle.meaning.specs.Name.{passes}
 use Rattle.sets.specs.Set.{covers}
 use Rattle.sets.specs.Set.Of.{maskOf-agree}
 use Rattle.plan.specs.Plan as Engine
-use Rattle.stack.specs.Loops.{passing, meeting, turned, lastGiven}
+use Rattle.stack.specs.Loops.{passing, meeting, turned}
 use Rattle.queue.specs.Loops.{movedNeed}
 use Rattle.columns.specs.Lists.{zeros, getD-zeros}
 
@@ -36,10 +36,6 @@ module _ (P : Engine.Plan) (k : ℕ) where
 pub turn-turned : (P : Engine.Plan) (m r : ℕ) → turned (P .deep) m r ≡ Engine.turn P m r
 unfolding turned Engine.turn
 turn-turned P m r = refl
-
-pub last-given : (m r : ℕ) → lastGiven m r ≡ Engine.lastGiven m r
-unfolding lastGiven Engine.lastGiven
-last-given m r = refl
 
 -- what 32 bits lose of a shifted need is outside m
 and-low : (n x m : ℕ) → m < 2 ^ n → bitAnd (x % 2 ^ n) m ≡ bitAnd x m

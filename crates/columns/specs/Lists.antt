@@ -10,11 +10,9 @@
 use Prim.Native.Nat.{ℕ, zero, suc, _+_}
 use mathlib.Core.Path.{_≡_, refl, sym, ap, _∙_}
 use mathlib.Core.List.{List, [], _∷_, _++_, map, append-assoc, map-append}
-use lib.ListN.{length, getD, set, replicate, length-map}
+use lib.ListN.{length, getD, set, length-map}
 use lib.Seq.{set-at, getD-at}
-
-abbrev pub zeros : ℕ → List ℕ
-zeros n = replicate n 0
+pub use Rattle.plan.specs.Planned.{zeros}
 
 getD-only-zeros : (n i : ℕ) → getD (zeros n) i 0 ≡ 0
 getD-only-zeros zero i = refl

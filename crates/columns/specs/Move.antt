@@ -6,6 +6,7 @@
 --
 -- Assumes nothing.
 use Prim.Native.Nat.{ℕ, suc, _+_, _-_, _^_, _≤_, _<_}
+use native.Mathlib.Nat.{add-zero}
 use native.Mathlib.Omega.{arith}
 use mathlib.Core.Path.{_≡_, refl, sym, ap, ap₂, _∙_, subst}
 use mathlib.Core.Bool.{Bool, true, false, not}
@@ -24,11 +25,8 @@ use Rattle.queue.specs.Loops.{movedNeed, suffixFrom, Queue, Moved, movedUp, cle
 use Rattle.queue.specs.Queue.{tidied, closedUp}
 use Rattle.columns.specs.Lists.{zeros, column}
 use Rattle.columns.specs.Leaves.{up-moved}
-use Rattle.columns.specs.Front.{queueOf, head-at}
+use Rattle.columns.specs.Front.{queueOf, same-queue, head-at}
 use Rattle.columns.specs.Slots.{one-more, put, skip, clear-law}
-
-plus-zero : (w : ℕ) → w + 0 ≡ w
-plus-zero w = omega arith
 
 abbrev nodes : List Waiting → List ℕ
 nodes ws = map (λ w. w .node) ws
@@ -117,7 +115,7 @@ module _ (P : Plan) (m poss to : ℕ) (small : m < 2 ^ 32) (zn zd : List ℕ) wh
   unfolding stay keep movedUp
   move-columns [] i w q c ec h ln ld ll en ed =
       record {
-        end = sym (plus-zero w);
+        end = sym (add-zero w);
         node = sym (append-nil _);
         need = sym (append-nil _);
         level = sym (append-nil _);
@@ -185,9 +183,9 @@ more-le a h = omega arith
 parts : (g : Waiting → ℕ) (pre suf : List Waiting) (z : List ℕ) → map g (pre ++ suf) ++ z ≡ map g pre ++ (map g suf ++ z)
 parts g pre suf z = ap (λ l. l ++ z) (map-append g pre suf) ∙ append-assoc (map g pre) (map g suf) z
 
-three : {a b : ℕ} {c d e f g h : List ℕ} → a ≡ b → c ≡ d → e ≡ f → g ≡ h →
+same-moved : {a b : ℕ} {c d e f g h : List ℕ} → a ≡ b → c ≡ d → e ≡ f → g ≡ h →
     _≡_ {A = Moved} (record { count = a; queue = record { node = c; need = e; level = g } }) (record { count = b; queue = record { node = d; need = f; level = h } })
-three p q r s = rw (p, q, r, s) refl
+same-moved p q r s = rw (p, q, r, s) refl
 
 module _ (P : Plan) (m poss depth : ℕ) (small : m < 2 ^ 32) (pre suf : List Waiting) (n : ℕ) where
   abbrev kept : List Waiting
@@ -216,16 +214,13 @@ module _ (P : Plan) (m poss depth : ℕ) (small : m < 2 ^ 32) (pre suf : List Wa
 
   done : (r : Moved) → Kept kept (length pre) (length pre + length suf) apart r → tidied (length pre + length suf) r ≡ record { count = length pre + length kept; queue = queueOf (pre ++ kept) (free + n) }
   done r k =
-      three (k .end)
+      same-moved (k .end)
       (one-column (λ w. w .node) (r .queue .node) (r .count) (k .end) (k .node) (k .node-rest) (k .node-size))
       (one-column (λ w. w .need) (r .queue .need) (r .count) (k .end) (k .need) (k .need-rest) (k .need-size))
       (one-column (λ w. w .level) (r .queue .level) (r .count) (k .end) (k .level) (k .level-rest) (k .level-size))
 
   apart-is : queueOf (pre ++ suf) n ≡ apart
-  apart-is = three-parts (parts (λ w. w .node) pre suf (zeros n)) (parts (λ w. w .need) pre suf (zeros n)) (parts (λ w. w .level) pre suf (zeros n))
-    where
-      three-parts : {c d e f g h : List ℕ} → c ≡ d → e ≡ f → g ≡ h → _≡_ {A = Queue} (record { node = c; need = e; level = g }) (record { node = d; need = f; level = h })
-      three-parts q r s = rw (q, r, s) refl
+  apart-is = same-queue (parts (λ w. w .node) pre suf (zeros n)) (parts (λ w. w .need) pre suf (zeros n)) (parts (λ w. w .level) pre suf (zeros n))
 
   -- THE CLOSE of the waiting nodes
   pub close-columns :

@@ -21,6 +21,7 @@ use lib.Seq.{length-take-le}
 use borrow.Author.Tests.{eqb-true, leb-false}
 use Rattle.choice.specs.Pick.{pick, pick-true, pick-false}
 use Rattle.plan.specs.Plan as Engine
+use Rattle.plan.specs.Planned.{columns}
 use Rattle.engine.specs.Quick as Quick
 use Rattle.engine.specs.Quick.{Frame, Waiting, State, sureAt, possAt, counted, countedIf, certain, raised, rise, fresh, framesAfter, Opening, wentIf, judged, openingFrom, opening, over, newcomer, queueAfter, outAfter, opens, quickOpen}
 use Rattle.stack.specs.Loops.{lastGiven}
@@ -32,7 +33,6 @@ use Rattle.act.specs.Act.{counts}
 use Rattle.session.specs.Event.{Done, refused, whole}
 use Rattle.columns.specs.Stages.{pushedIn, openTaken, openJudged, openLooked, openAt}
 use Rattle.columns.specs.Lists.{zeros, getD-zeros, column, column-last}
-use Rattle.columns.specs.Leaves.{last-given}
 use Rattle.columns.specs.Push.{framesOf, rise-keeps, after-keeps, same-length, push-columns}
 use Rattle.columns.specs.Front.{queueOf, front-columns}
 use Rattle.columns.specs.Hand.{buffer, join-all, join-alive, join-dead}
@@ -89,7 +89,7 @@ module _ (P : Engine.Plan) (s : State) (x : ℕ) (f : Fits P s) (room : length (
       ∙ length-append (s .frames) (new ∷ [])
 
   pub open-frames : pushedIn (sessionOf P s) x ≡ record { top = length (risen .kept); frames = framesOf P after (64 - length after) }
-  unfolding pushedIn opening openingFrom judged
+  unfolding columns pushedIn opening openingFrom judged
   open-frames =
       let e : 64 - d ≡ suc (63 - d) = omega arith in
       let e′ : 63 - d ≡ 64 - length after = omega (arith, after-length) in
@@ -141,12 +141,11 @@ module _ (P : Engine.Plan) (s : State) (x : ℕ) (f : Fits P s) (room : length (
   unfolding allGo opening openingFrom judged
   all-is =
       ap₂ (λ m r. pick (lastGiven m r) (eqb (o .went) (length (s .queue))) false) met-slot sure-slot
-      ∙ ap (λ b. pick b (eqb (o .went) (length (s .queue))) false) (last-given _ _)
       ∙ pick-and _ _
 
   alive-is : lastGiven (getD (framesOf P after n .pass) d 0) (getD (framesOf P after n .poss) d 0) ≡ o .joins
   unfolding opening openingFrom judged
-  alive-is = ap₂ lastGiven pass-slot poss-slot ∙ last-given _ _
+  alive-is = ap₂ lastGiven pass-slot poss-slot
 
   full-is : isFull (o .all) (o .joins) (o .went) (length (s .queue)) ≡ over 128 s o
   unfolding isFull over

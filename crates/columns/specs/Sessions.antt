@@ -1,14 +1,13 @@
 -- THE SESSION of a state of the engine: its lists as columns, with every unused slot 0. One session for each plan and state.
 --
---   planOf P            the plan's tables in 32 slots
 --   sessionOf P s       the session
 --   Fits P s            the state keeps the session's limits: what makes the columns fit their slots, and the masks their 32 bits
 --   done r              a taken event with the result r, as event answers it
 --
 -- Assumes nothing. NOT here: that an event on the session is the engine's (Open, Close).
-use Prim.Native.Nat.{ℕ, _-_, _≤_, _<_}
+use Prim.Native.Nat.{ℕ, _-_, _≤_}
 use mathlib.Core.Path.{_≡_}
-use mathlib.Core.List.{List, _++_}
+use mathlib.Core.List.{List}
 use native.Mathlib.Omega.{arith}
 use lib.ListN.{length}
 use Rattle.engine.specs.Every.{Every}
@@ -16,28 +15,14 @@ use Rattle.plan.specs.Plan as Engine
 use Rattle.engine.specs.Quick.{State, Result}
 use Rattle.stack.specs.Frames.{Frames}
 use Rattle.queue.specs.Loops.{Queue}
-use Rattle.plan.specs.declared.Plan.{Plan}
-use Rattle.plan.specs.Planned.{sizeOf}
+use Rattle.plan.specs.Planned.{sizeOf, columns}
 use Rattle.session.specs.declared.Session.{Session}
 use Rattle.act.specs.declared.Counts.{Counts}
 use Rattle.session.specs.declared.Answer.the-variants.{Taken}
 use Rattle.session.specs.Event.{Done}
-use Rattle.columns.specs.Lists.{zeros}
 use Rattle.columns.specs.Push.{framesOf}
 use Rattle.columns.specs.Front.{queueOf}
 use Rattle.columns.specs.Hand.{buffer}
-
-abbrev pub planOf : Engine.Plan → Plan
-planOf P =
-    record {
-      names = P .tests ++ zeros (32 - length (P .tests));
-      hung = P .hung ++ zeros (32 - length (P .hung));
-      size = length (P .tests);
-      deep = P .deep;
-      main = P .main;
-      plain = P .plain;
-      first = P .first;
-    }
 
 abbrev pub stackOf : Engine.Plan → State → Frames
 stackOf P s = framesOf P (s .frames) (64 - length (s .frames))
@@ -51,7 +36,7 @@ countsOf s = record { depth = length (s .frames); count = length (s .queue); ope
 abbrev pub sessionOf : Engine.Plan → State → Session
 sessionOf P s =
     record {
-      plan = planOf P;
+      plan = columns P;
       name = stackOf P s .name;
       pass = stackOf P s .pass;
       below = stackOf P s .below;

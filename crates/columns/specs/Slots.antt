@@ -8,6 +8,7 @@
 -- Assumes nothing.
 use Prim.Native.Nat.{ℕ, zero, suc, _+_, _-_, _≤_, _<_}
 use native.Mathlib.Numerals.{add-one}
+use native.Mathlib.Nat.{add-zero}
 use native.Mathlib.Omega.{arith}
 use mathlib.Core.Path.{_≡_, refl, sym, ap, ap₂, _∙_}
 use mathlib.Core.List.{List, [], _∷_, _++_, append-assoc, append-nil}
@@ -15,9 +16,6 @@ use lib.ListN.{length, getD, take, drop, set, length-set, length-append, take-ap
 use lib.Seq.{take-suc-set, take-set-le, drop-set-lt, drop-drop, drop-cons, take-at, drop-at}
 use Rattle.queue.specs.Loops.{cleared, shifted}
 use Rattle.columns.specs.Lists.{zeros}
-
-plus-zero : (w : ℕ) → w + 0 ≡ w
-plus-zero w = omega arith
 
 pub one-more : (w l : ℕ) → w + 1 + l ≡ w + suc l
 one-more w l = omega arith
@@ -27,11 +25,11 @@ put l w v ks h =
     ap (λ k. take k (set l w v) ++ ks) (add-one w) ∙ ap (λ x. x ++ ks) (take-suc-set l w v h) ∙ append-assoc (take w l) (v ∷ []) ks
 
 pub skip : (l : List ℕ) (w v : ℕ) → take (w + 0) (set l w v) ≡ take w l
-skip l w v = ap (λ k. take k (set l w v)) (plus-zero w) ∙ take-set-le w l w v (omega arith)
+skip l w v = ap (λ k. take k (set l w v)) (add-zero w) ∙ take-set-le w l w v (omega arith)
 
 pub clear-law : (k i : ℕ) (a : List ℕ) → i + k ≤ length a → cleared k i a ≡ take i a ++ (zeros k ++ drop (i + k) a)
 unfolding cleared
-clear-law zero i a h = sym (ap (λ j. take i a ++ drop j a) (plus-zero i) ∙ take-append-drop i a)
+clear-law zero i a h = sym (ap (λ j. take i a ++ drop j a) (add-zero i) ∙ take-append-drop i a)
 clear-law (suc k) i a h =
     let e : i + 1 + k ≡ i + suc k = one-more i k in
     let l : length (set a i 0) ≡ length a = length-set a i 0 in
@@ -46,7 +44,7 @@ record Shifted (k n j : ℕ) (a r : List ℕ) : Type 0 where
 
 shift-law : (k n j : ℕ) (a : List ℕ) → j + n + k ≤ length a → Shifted k n j a (shifted k n j a)
 unfolding shifted
-shift-law k zero j a h = record { front = ap (λ i. take i a) (plus-zero j) ∙ sym (append-nil _); back = refl; size = refl }
+shift-law k zero j a h = record { front = ap (λ i. take i a) (add-zero j) ∙ sym (append-nil _); back = refl; size = refl }
 shift-law k (suc n) j a h =
     let v : ℕ = getD a (j + k) 0 in
     let a₁ : List ℕ = set a j v in

@@ -3,7 +3,7 @@
 --   ops q              the meaning's sets, readys and needs, as the engine wants them
 --   framesOf q d rs rp     the open elements of the content d, around which the readys are rs (sure) and rp (open reading)
 --   places q d         where each node of d waits and what it needs there, in document order
---   number i xs        places as waiting nodes, the first having number i
+--   number i xs        places as waiting nodes, the first having number i;  numberOf w: the number of one
 --   framesAt q d, nodes q d     the same of a whole document: its open elements, all its nodes
 --   stateOf q d        the state after d: of the nodes, those held
 --
@@ -36,6 +36,9 @@ ops q =
       up = up q;
       itself = itself;
     }
+
+abbrev pub numberOf : Waiting Need → ℕ
+numberOf w = w .number
 
 unfoldable pub framesOf : Query → Doc → Ready → Ready → List (Frame Steps Ready)
 framesOf q (done f) rs rp = []

@@ -10,12 +10,13 @@ use Prim.Native.Nat.{ℕ}
 use mathlib.Core.Path.{_≡_, refl}
 use mathlib.Core.Bool.{Bool, true, false, _&&_}
 use mathlib.Core.List.{List, [], _∷_, _++_}
-use lib.Dec.{T, eqb}
+use lib.Dec.{T}
 use lib.ListN.{replicate}
 use Rattle.meaning.specs.Name.{passes}
-use Rattle.meaning.specs.Query.{child, descendant, Step, Query, allStep, hangs, goesDeep, mainIf, mainPath}
+use Rattle.meaning.specs.Query.{Query, allStep, hangs, goesDeep, mainIf, mainPath}
 use Rattle.meaning.specs.Selection.{start}
 use Rattle.meaning.specs.Stream.{Event, opens, closes}
+use Rattle.meaning.specs.Table.{main-child, main-descendant, has-child, has-descendant, sameNodes}
 use Rattle.sets.specs.Set.{member, covers, overlaps, maskOf}
 use Rattle.engine.specs.Engine.{keepIf, keep}
 use Rattle.plan.specs.Order.{predicateIf, predicates, backPath, order, at, mask}
@@ -35,18 +36,6 @@ record Case : Type 0 where
   query : Query
   events : List Event
   hands : List (List ℕ)
-
-main-child : ℕ → ℕ → Step
-main-child s n = record { axis = child; main = true; parent = s; name = n }
-
-main-descendant : ℕ → ℕ → Step
-main-descendant s n = record { axis = descendant; main = true; parent = s; name = n }
-
-has-child : ℕ → ℕ → Step
-has-child s n = record { axis = child; main = false; parent = s; name = n }
-
-has-descendant : ℕ → ℕ → Step
-has-descendant s n = record { axis = descendant; main = false; parent = s; name = n }
 
 -- k events that hand out nothing
 quiet : ℕ → List (List ℕ)
@@ -112,12 +101,6 @@ r1 =
 cases : List Case
 cases = p1 ∷ p3 ∷ p5 ∷ p6 ∷ p8 ∷ r1 ∷ []
 
-sameNodes : List ℕ → List ℕ → Bool
-sameNodes [] [] = true
-sameNodes [] (y ∷ ys) = false
-sameNodes (x ∷ xs) [] = false
-sameNodes (x ∷ xs) (y ∷ ys) = eqb x y && sameNodes xs ys
-
 sameAll : List (List ℕ) → List (List ℕ) → Bool
 sameAll [] [] = true
 sameAll [] (y ∷ ys) = false
@@ -129,7 +112,7 @@ runRight [] = true
 runRight (c ∷ cs) = sameAll (runs (Plan.plan (c .query)) (c .events) begun) (c .hands) && runRight cs
 
 table : T (runRight cases)
-unfolding runRight cases p1 p3 p5 p6 p8 r1 three sameNodes sameAll main-child main-descendant has-child has-descendant quiet runs quickAct begun quickOpen quickClose passes allStep hangs goesDeep mainIf mainPath start member covers overlaps maskOf keepIf keep predicateIf predicates backPath order at mask Plan.plan Plan.named Plan.meets Plan.lift Plan.turn Plan.lastGiven Plan.upIf Plan.up Quick.metAt Quick.sureAt Quick.possAt Quick.certainIf Quick.certain Quick.countedIf Quick.counted Quick.raised Quick.riseIf Quick.riseAt Quick.rise Quick.refreshed Quick.refresh Quick.fresh Quick.framesAfter Quick.judged Quick.openingFrom Quick.opening Quick.over Quick.newcomer Quick.queueAfter Quick.outAfter Quick.opens Quick.cutIf Quick.cut Quick.moved Quick.stay Quick.wentIf Quick.closingFrom Quick.closingAt Quick.closing Quick.closes
+unfolding runRight cases p1 p3 p5 p6 p8 r1 three sameNodes sameAll quiet runs quickAct begun quickOpen quickClose passes allStep hangs goesDeep mainIf mainPath start member covers overlaps maskOf keepIf keep predicateIf predicates backPath order at mask Plan.plan Plan.named Plan.meets Plan.lift Plan.turn Plan.lastGiven Plan.upIf Plan.up Quick.metAt Quick.sureAt Quick.possAt Quick.certainIf Quick.certain Quick.countedIf Quick.counted Quick.raised Quick.riseIf Quick.riseAt Quick.rise Quick.refreshed Quick.refresh Quick.fresh Quick.framesAfter Quick.judged Quick.openingFrom Quick.opening Quick.over Quick.newcomer Quick.queueAfter Quick.outAfter Quick.opens Quick.cutIf Quick.cut Quick.moved Quick.stay Quick.wentIf Quick.closingFrom Quick.closingAt Quick.closing Quick.closes
 table = tt
 
 -- the opening of a d after the events es, with room for two
@@ -142,5 +125,5 @@ overAt es = Quick.over 2 (reached P es begun) (Quick.opening P 4 (reached P es b
 one-too-many :
     overAt (opens 5 ∷ []) ∷ overAt (opens 5 ∷ opens 4 ∷ closes 4 ∷ []) ∷ overAt (opens 5 ∷ opens 4 ∷ closes 4 ∷ opens 4 ∷ closes 4 ∷ []) ∷ []
     ≡ false ∷ false ∷ true ∷ []
-unfolding overAt reached r1 three main-child has-child runs quickAct begun quickOpen quickClose passes allStep hangs goesDeep mainIf mainPath start member covers overlaps maskOf keepIf keep predicateIf predicates backPath order at mask Plan.plan Plan.named Plan.meets Plan.lift Plan.turn Plan.lastGiven Plan.upIf Plan.up Quick.metAt Quick.sureAt Quick.possAt Quick.certainIf Quick.certain Quick.countedIf Quick.counted Quick.raised Quick.riseIf Quick.riseAt Quick.rise Quick.refreshed Quick.refresh Quick.fresh Quick.framesAfter Quick.judged Quick.openingFrom Quick.opening Quick.over Quick.newcomer Quick.queueAfter Quick.outAfter Quick.opens Quick.cutIf Quick.cut Quick.moved Quick.stay Quick.wentIf Quick.closingFrom Quick.closingAt Quick.closing Quick.closes
+unfolding overAt reached r1 three runs quickAct begun quickOpen quickClose passes allStep hangs goesDeep mainIf mainPath start member covers overlaps maskOf keepIf keep predicateIf predicates backPath order at mask Plan.plan Plan.named Plan.meets Plan.lift Plan.turn Plan.lastGiven Plan.upIf Plan.up Quick.metAt Quick.sureAt Quick.possAt Quick.certainIf Quick.certain Quick.countedIf Quick.counted Quick.raised Quick.riseIf Quick.riseAt Quick.rise Quick.refreshed Quick.refresh Quick.fresh Quick.framesAfter Quick.judged Quick.openingFrom Quick.opening Quick.over Quick.newcomer Quick.queueAfter Quick.outAfter Quick.opens Quick.cutIf Quick.cut Quick.moved Quick.stay Quick.wentIf Quick.closingFrom Quick.closingAt Quick.closing Quick.closes
 one-too-many = refl

@@ -14,6 +14,7 @@ use native.Mathlib.Omega.{arith}
 use mathlib.Core.Path.{_≡_, refl, sym, ap, _∙_}
 use mathlib.Core.List.{List, [], _∷_, _++_, append-nil, append-assoc}
 use lib.ListN.{length, getD, length-append}
+use Rattle.meaning.specs.Record.{Bytes}
 use Rattle.records.specs.Write.{nodeAt, nodesIn}
 use Rattle.lines.specs.Decimal.{decimal}
 use Rattle.lines.specs.DecimalLaws.{length-short}
@@ -35,10 +36,6 @@ length-line n = length-append (decimal n) (10 ∷ [])
 
 pub line-short : (k n : ℕ) → n < 10 ^ suc k → length (line n) ≤ k + 2
 line-short k n h = omega (arith, length-line n, length-short k n h)
-
--- a byte's value is under 256
-abbrev pub Bytes : List ℕ → Type 0
-Bytes bs = (i : ℕ) → getD bs i 0 < 256
 
 nodeAt-bound : (bs : List ℕ) (i : ℕ) → Bytes bs → nodeAt bs i < 4294967296
 nodeAt-bound bs i h = omega (arith, h (4 * i), h (4 * i + 1), h (4 * i + 2), h (4 * i + 3))

@@ -23,7 +23,7 @@ use Rattle.query.specs.Rules.{mostSteps}
 use Rattle.query.specs.Decode.{decodeFrom}
 use Rattle.plan.specs.Order.{predicateIf, predicates, backPath, order}
 use Rattle.plan.specs.Places.Laws.{order-length}
-use Rattle.plan.specs.Planned.Steps.{from-length}
+use Rattle.query.specs.Decode.Laws.{from-length}
 use Rattle.plan.specs.Planned.{stepAt, before, placed, zeros, orderOf}
 
 abbrev numbersOf : List Numbered → List ℕ

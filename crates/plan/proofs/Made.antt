@@ -24,7 +24,8 @@ use Rattle.plan.specs.Places.Laws.{order-length}
 use Rattle.plan.specs.Places.Plan.{none-hangs, first-order}
 use Rattle.plan.specs.Plan.{plan}
 use Rattle.plan.specs.Planned.{stepAt, sizeOf, passed, before, zeros, filled, padded, orderOf, columns, planOf}
-use Rattle.plan.specs.Planned.Steps.{from-length, Whose, order-whose, read-table, read-mask}
+use Rattle.query.specs.Decode.Laws.{from-length}
+use Rattle.plan.specs.Planned.Steps.{Whose, order-whose, read-table, read-mask}
 use Rattle.plan.specs.declared.Plan.{Plan}
 use Rattle.plan.specs.declared.Test.{Test}
 use Rattle.plan.specs.declared.Test.the-variants.{OnMain, Starts, Deep}

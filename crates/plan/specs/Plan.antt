@@ -23,6 +23,7 @@ use Rattle.meaning.specs.Query.{Query, allStep, hangs, goesDeep}
 use Rattle.meaning.specs.Selection.{start}
 use Rattle.sets.specs.Set.{join, meet, covers, maskOf}
 use Rattle.plan.specs.Order.{backPath, order, mask}
+unfoldable pub use Rattle.sets.specs.Set.{lastGiven}
 
 pub record Plan : Type 0 where
   pub tests : List ℕ
@@ -54,9 +55,6 @@ lift P M K = join M (meet K (P .deep))
 
 unfoldable pub turn : Plan → ℕ → ℕ → ℕ
 turn P M r = join (meet M r / 2) (meet r (P .deep))
-
-unfoldable pub lastGiven : ℕ → ℕ → Bool
-lastGiven M r = not (eqb (meet (meet M r) 1) 0)
 
 unfoldable pub upIf : Bool → Plan → ℕ → ℕ → ℕ
 upIf true P M need = meet M 1

@@ -11,6 +11,7 @@ ghost use Rattle.meaning.specs.Query.{hangs, goesDeep};
 ghost use Rattle.sets.specs.Set.{maskOf};
 ghost use Rattle.query.specs.Rules.{stepBytes, stepOf};
 ghost use Rattle.plan.specs.Planned.{stepAt, sizeOf, starts, passed, placed, orderOf, padded, PlanGives};
+use query::AxisByte;
 
 pub struct Plan {
     // The name test of the step at each place; 0 past the last step, as in `hung`.
@@ -186,15 +187,14 @@ fn is_start(query: &[u8], step: u8) -> bool
     false
 }
 
-// "axis: 1 child, 2 descendant"
 fn goes_deep(query: &[u8], step: u8) -> bool
     ensures { λ r. ⌜ r ≡ goesDeep (stepAt (now (query .entry)) step .axis) ⌝ }
 {
-    let axis = byte_of(query, step, 0);
+    let axis = query::axis_named(byte_of(query, step, 0));
     match axis {
-        1 => false,
-        2 => true,
-        _ => false,
+        AxisByte::Child => false,
+        AxisByte::Descendant => true,
+        AxisByte::Unknown => false,
     }
 }
 

@@ -4,7 +4,6 @@
 --   decodeStep r     the step that a record means
 --   decodeFrom q n s n steps of q, of which the first has s steps before it
 --   decode q         the query that the bytes q mean
---   Bytes q          each number of q is a byte
 --   Meant q          what every admitted query gives the theorems of crate meaning
 --   Shaped q         the length is right, and each step has an axis, a role and its zeros: all but what it hangs on
 --
@@ -15,7 +14,8 @@ use mathlib.Core.Path.{_≡_}
 use mathlib.Core.Bool.{true, false}
 use mathlib.Core.List.{List, [], _∷_}
 use lib.Dec.{T}
-use lib.ListN.{length, getD}
+use lib.ListN.{length}
+pub use Rattle.meaning.specs.Record.{Bytes}
 use Rattle.meaning.specs.Query.{Axis, child, descendant, Step, Query, admits}
 use Rattle.query.specs.Rules.{stepBytes, mostSteps, wrongLength, steps, stepOf, axisByte, roleByte, onByte, nameNumber, isMain, axisNamed, axisRule, roleRule, zeroRule}
 use Rattle.query.specs.declared.AxisByte.{AxisByte}
@@ -36,9 +36,6 @@ decodeFrom q (suc n) s = decodeStep (stepOf q s) ∷ decodeFrom q n (suc s)
 
 unfoldable pub decode : List ℕ → Query
 decode q = decodeFrom q (steps q) 0
-
-abbrev pub Bytes : List ℕ → Type 0
-Bytes q = (i : ℕ) → getD q i 0 < 256
 
 pub record Meant (q : List ℕ) : Type 0 where
   pub admitted : T (admits (decode q))

@@ -1,7 +1,7 @@
 -- Queries of document 01 and a fault of each kind, as bytes, with their answers.
 --
 --   step axis role on name   a step's record
---   path n on                n child steps on the main path, each on the one before, the first on step `on`
+--   chain n on               n child steps on the main path, each on the one before, the first on step `on`
 --   p1                       the query of P1: //section[author]//table[position]//cell
 --   rows                     the table: bytes, and the answer to them
 --   rows-right               each row's answer is the one given
@@ -20,27 +20,27 @@ use Rattle.query.specs.Decode.{axisMeant, decodeStep, decodeFrom, decode
 abbrev pub step : ℕ → ℕ → ℕ → ℕ → List ℕ
 step axis role on name = axis ∷ role ∷ on ∷ 0 ∷ 0 ∷ name ∷ 0 ∷ 0 ∷ []
 
-abbrev pub path : ℕ → ℕ → List ℕ
-path zero on = []
-path (suc n) on = step 1 1 on 0 ++ path n (suc on)
+abbrev pub chain : ℕ → ℕ → List ℕ
+chain zero on = []
+chain (suc n) on = step 1 1 on 0 ++ chain n (suc on)
 
 abbrev pub p1 : List ℕ
 p1 = step 2 1 0 1 ++ step 1 0 1 2 ++ step 2 1 1 3 ++ step 1 0 3 4 ++ step 2 1 3 5
 
-pub record Row : Type 0 where
+pub record CheckRow : Type 0 where
   pub bytes : List ℕ
   pub answer : Answer
 
 infix 3 _gets_
-abbrev pub _gets_ : List ℕ → Answer → Row
+abbrev pub _gets_ : List ℕ → Answer → CheckRow
 q gets a = record { bytes = q; answer = a }
 
-abbrev pub rows : List Row
+abbrev pub rows : List CheckRow
 rows =
     (p1 gets admitted)
     -- "A query of 32 steps is taken, of 33 gets 9."
-    ∷ (path 32 0 gets admitted)
-    ∷ (path 33 0 gets refused badLength)
+    ∷ (chain 32 0 gets admitted)
+    ∷ (chain 33 0 gets refused badLength)
     ∷ ([] gets refused badLength)
     ∷ (1 ∷ 1 ∷ 0 ∷ 0 ∷ 0 ∷ 1 ∷ 0 ∷ [] gets refused badLength)
     -- axis, role
@@ -52,7 +52,7 @@ rows =
     ∷ (step 1 1 1 1 gets refusedAt badStep 1)
     -- a main-path step on the step before it, which is a predicate; on an earlier main-path step; on 0
     ∷ (step 1 1 0 1 ++ step 1 0 1 2 ++ step 1 1 2 3 gets refusedAt badStep 3)
-    ∷ (path 2 0 ++ step 1 1 1 3 gets refusedAt badStep 3)
+    ∷ (chain 2 0 ++ step 1 1 1 3 gets refusedAt badStep 3)
     ∷ (step 1 1 0 1 ++ step 1 1 0 2 gets refusedAt badStep 2)
     -- a predicate on 0, on itself, on a later step; on a predicate
     ∷ (step 1 1 0 1 ++ step 1 0 0 2 gets refusedAt badStep 2)
@@ -68,7 +68,7 @@ rows =
     ∷ (step 9 1 0 1 ++ 1 ∷ [] gets refused badLength)
     ∷ []
 
-pub rows-right : map (λ (r : Row). answerTo (r .bytes)) rows ≡ map (λ (r : Row). r .answer) rows
+pub rows-right : map (λ (r : CheckRow). answerTo (r .bytes)) rows ≡ map (λ (r : CheckRow). r .answer) rows
 unfolding nearer laterRule nearest hangRule keeps ifKept judgedFrom judged ifWrong answerTo
 rows-right = refl
 

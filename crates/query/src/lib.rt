@@ -107,7 +107,8 @@ fn keeps_axis_rule(byte: u8) -> bool
     }
 }
 
-fn axis_named(byte: u8) -> AxisByte
+// "axis: 1 child, 2 descendant"
+pub fn axis_named(byte: u8) -> AxisByte
     ensures { λ r. ⌜ r ≡ axisNamed byte ⌝ }
 {
     match byte {

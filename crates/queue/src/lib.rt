@@ -8,7 +8,7 @@ ghost use Rattle.queue.specs.Queue.{handedOut, closedUp, allGo, isFull, 
 ghost use mathlib.Core.Bool.{true, false};
 
 // What a waiting node needs one level up, out of an element that meets `m`.
-pub fn up(deep: u32, main: u32, m: u32, need: u32) -> u32
+fn up(deep: u32, main: u32, m: u32, need: u32) -> u32
     ensures { λ r. ⌜ r ≡ movedNeed deep main m need ⌝ }
 {
     if need == 0 {
@@ -18,7 +18,7 @@ pub fn up(deep: u32, main: u32, m: u32, need: u32) -> u32
 }
 
 // Whether a node with this need is certain at level `at`.
-pub fn certain(met: &[u32; 64], sure: &[u32; 65], at: u8, need: u32) -> bool
+fn certain(met: &[u32; 64], sure: &[u32; 65], at: u8, need: u32) -> bool
     ensures { λ r. ⌜ r ≡ isCertain (now (met .entry)) (now (sure .entry)) at need ⌝ }
 {
     let level = at as usize;
@@ -37,7 +37,7 @@ pub fn certain(met: &[u32; 64], sure: &[u32; 65], at: u8, need: u32) -> bool
 }
 
 // How many nodes at the front are certain.
-pub fn front(
+fn front(
     met: &[u32; 64],
     sure: &[u32; 65],
     need: &[u32; 128],
@@ -76,7 +76,7 @@ pub fn front_if(
 }
 
 // Where the nodes that wait at level `at` begin: they are the last ones.
-pub fn suffix(level: &[u8; 128], count: usize, at: u8) -> usize
+fn suffix(level: &[u8; 128], count: usize, at: u8) -> usize
     requires { ⌜ count ≤ 128 ⌝ }
     ensures { λ r. ⌜ (r ≡ suffixFrom (now (level .entry)) at count) × (r ≤ count) ⌝ }
 {
@@ -93,7 +93,7 @@ pub fn suffix(level: &[u8; 128], count: usize, at: u8) -> usize
 
 // The nodes of `from` to `count` move up to level `to`, out of an element that meets `m`; those that nothing of `ready` can serve leave.
 // Returns where they now end.
-pub fn move_up(
+fn move_up(
     deep: u32,
     main: u32,
     m: u32,
@@ -124,7 +124,7 @@ pub fn move_up(
 }
 
 // The slots of `from` to `to` are unused.
-pub fn clear(
+fn clear(
     node: &mut [u32; 128],
     need: &mut [u32; 128],
     level: &mut [u8; 128],
@@ -144,7 +144,7 @@ pub fn clear(
 }
 
 // The slots of `k` to `count` move to the front.
-pub fn shift(
+fn shift(
     node: &mut [u32; 128],
     need: &mut [u32; 128],
     level: &mut [u8; 128],
@@ -168,7 +168,7 @@ pub fn shift(
 }
 
 // The first `k` nodes as list records, from the start of the buffer.
-pub fn write_front(node: &[u32; 128], k: usize, out: &mut [u8])
+fn write_front(node: &[u32; 128], k: usize, out: &mut [u8])
     requires { ⌜ (k ≤ 128) × (4 * k ≤ length (now out)) ⌝ }
     ensures { λ r. ⌜ now (out .exit) ≡ written (now (node .entry)) k 0 (now (out .entry)) ⌝ }
 {

@@ -18,7 +18,7 @@ fn passes(test: u16, x: u16) -> bool
 }
 
 // The steps whose name test an element named `x` passes.
-pub fn named(names: &[u16; 32], size: usize, x: u16) -> u32
+fn named(names: &[u16; 32], size: usize, x: u16) -> u32
     requires { ⌜ size ≤ 32 ⌝ }
     ensures { λ r. ⌜ r ≡ passing (now (names .entry)) size x ⌝ }
 {
@@ -34,7 +34,7 @@ pub fn named(names: &[u16; 32], size: usize, x: u16) -> u32
 }
 
 // The steps of `pass` all of whose predicate steps are in `below`.
-pub fn meets(hung: &[u32; 32], size: usize, pass: u32, below: u32) -> u32
+fn meets(hung: &[u32; 32], size: usize, pass: u32, below: u32) -> u32
     requires { ⌜ size ≤ 32 ⌝ }
     ensures { λ r. ⌜ r ≡ meeting (now (hung .entry)) size pass below ⌝ }
 {
@@ -50,14 +50,14 @@ pub fn meets(hung: &[u32; 32], size: usize, pass: u32, below: u32) -> u32
 }
 
 // Whose turn it is in the content of an element that meets `m`, `ready` being whose turn it is around it.
-pub fn turn(deep: u32, m: u32, ready: u32) -> u32
+fn turn(deep: u32, m: u32, ready: u32) -> u32
     ensures { λ r. ⌜ r ≡ turned deep m ready ⌝ }
 {
     ((m & ready) >> 1) | (ready & deep)
 }
 
 // `first` rises from a new element under `depth` open ones while it is news. Returns how many of them stayed as they were.
-pub fn rise(
+fn rise(
     hung: &[u32; 32],
     size: usize,
     deep: u32,
@@ -89,7 +89,7 @@ pub fn rise(
 }
 
 // `sure` of the levels after `from` up to `to`, each by the one before it.
-pub fn refresh(deep: u32, met: &[u32; 64], sure: &mut [u32; 65], from: usize, to: usize)
+fn refresh(deep: u32, met: &[u32; 64], sure: &mut [u32; 65], from: usize, to: usize)
     requires { ⌜ (from ≤ to) × (to ≤ 64) ⌝ }
     ensures { λ r. ⌜ now (sure .exit) ≡ refreshed deep (now (met .entry)) (to - from) from (now (sure .entry)) ⌝ }
 {

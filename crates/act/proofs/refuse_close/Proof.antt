@@ -1,53 +1,71 @@
+-- `refuse_close` gives the lowest refusal that applies, test by test as its model; where none does the counts fit. Assumes nothing.
 use Rattle.act.specs.Refuse.{refuseClose}
-use Rattle.choice.specs.Tests.{tests}
+use Rattle.choice.specs.Pick.{pick-yes, pick-no}
+use borrow.Author.Tests.{eq-eqb, ne-eqb, lt-ltb, le-ltb}
+use mathlib.Core.Path.{refl}
 use native.Mathlib.Omega.{arith}
 use borrow.Author.Needs.{needs}
 use Rattle.act.proofs.refuse_close.Statement.{statement}
 use Rattle.act.proofs.refuse_close.Tie as tie
-use Rattle.act.proofs.refuse_close.Reads as reads
-use Rattle.act.proofs.refuse_close.Lts as lts
 
--- src/lib.rt:68:9
 returns : tie.Need-returns
 unfolding refuseClose
-returns c = (search tests depth 12, λ e. absurd (omega arith))
+returns c = (pick-yes _ _ _ _ (c .if1 .taken) refl, λ e. absurd (omega arith))
 
--- src/lib.rt:72:9
 returns-2 : tie.Need-returns-2
 unfolding refuseClose
-returns-2 c = (search tests depth 12, λ e. absurd (omega arith))
+returns-2 c =
+    (pick-no _ _ _ _ (c .before .if1 .left) (pick-yes _ _ _ _ (eq-eqb _ _ (c .if2 .taken)) refl), λ e. absurd (omega arith))
 
--- src/lib.rt:75:9
 returns-3 : tie.Need-returns-3
 unfolding refuseClose
-returns-3 c = (search tests depth 12, λ e. absurd (omega arith))
+returns-3 c = (
+  pick-no _ _ _ _ (c .before .before .if1 .left)
+      (pick-no _ _ _ _ (ne-eqb _ _ (c .before .if2 .left))
+      (pick-yes _ _ _ _ (lt-ltb _ _ (c .if3 .taken)) refl)),
+  λ e. absurd (omega arith),
+)
 
--- src/lib.rt:77:13
 sub-if4 : tie.Need-sub-if4
 sub-if4 c = search needs
 
--- src/lib.rt:77:8
 mul-if4 : tie.Need-mul-if4
 mul-if4 c = search needs
 
--- src/lib.rt:77:8
 element-copy-out-if4 : tie.Need-element-copy-out-if4
 element-copy-out-if4 c = search needs
 
--- src/lib.rt:78:9
 returns-4 : tie.Need-returns-4
 unfolding refuseClose
-returns-4 c = (search tests depth 12, λ e. absurd (omega arith))
+returns-4 c = (
+  pick-no _ _ _ _ (c .before .before .before .before .if1 .left)
+      (pick-no _ _ _ _ (ne-eqb _ _ (c .before .before .before .if2 .left))
+      (pick-no _ _ _ _ (le-ltb _ _ (c .before .before .if3 .left))
+      (pick-no _ _ _ _ (ne-eqb _ _ (c .if4 .taken)) refl))),
+  λ e. absurd (omega arith),
+)
 
--- src/lib.rt:81:9
 returns-5 : tie.Need-returns-5
 unfolding refuseClose
-returns-5 c = (search tests depth 12, λ e. absurd (omega arith))
+returns-5 c = (
+  pick-no _ _ _ _ (c .before .before .before .before .before .before .if1 .left)
+      (pick-no _ _ _ _ (ne-eqb _ _ (c .before .before .before .before .before .if2 .left))
+      (pick-no _ _ _ _ (le-ltb _ _ (c .before .before .before .before .if3 .left))
+      (pick-yes _ _ _ _ (eq-eqb _ _ (c .before .before .if4 .left))
+      (pick-yes _ _ _ _ (lt-ltb _ _ (c .if5 .taken)) refl)))),
+  λ e. absurd (omega arith),
+)
 
--- src/lib.rt:64:1
 returns-6 : tie.Need-returns-6
 unfolding refuseClose
-returns-6 c = (search tests depth 12, λ e. record { some = omega arith; deep = c .before .before .before .before .if3 .left; held = c .if5 .left })
+returns-6 c = (
+  pick-no _ _ _ _ (c .before .before .before .before .before .before .if1 .left)
+      (pick-no _ _ _ _ (ne-eqb _ _ (c .before .before .before .before .before .if2 .left))
+      (pick-no _ _ _ _ (le-ltb _ _ (c .before .before .before .before .if3 .left))
+      (pick-yes _ _ _ _ (eq-eqb _ _ (c .before .before .if4 .left))
+      (pick-no _ _ _ _ (le-ltb _ _ (c .if5 .left)) refl)))),
+  λ e. record { some = omega arith; deep = c .before .before .before .before .if3 .left; held = c .if5 .left },
+)
 
 pub refuse-close-spec : {M : Type 1} → statement M
 refuse-close-spec =

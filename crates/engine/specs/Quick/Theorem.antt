@@ -19,12 +19,12 @@ use lib.Seq.{drop-append-seam}
 use borrow.Author.Tests.{le-ltb}
 use Rattle.meaning.specs.Query.{Query, admits}
 use Rattle.meaning.specs.Document.{Node, Doc, done, within, opened, closed, count, depth, isOpen, finished, endsAt}
+use Rattle.meaning.specs.Document.Laws.{count-opened, count-closed}
 use Rattle.meaning.specs.Standing.{listed, held}
 use Rattle.meaning.specs.Stream.{Event, opens, closes, fits, act}
 use Rattle.engine.specs.Engine as Engine
 use Rattle.engine.specs.Engine.{openModel, closeModel, settle}
 use Rattle.engine.specs.StateOf.{stateOf}
-use Rattle.engine.specs.StateOf.Theorem.{count-open, count-close}
 use Rattle.plan.specs.Plan.{plan}
 use Rattle.engine.specs.MaskOps.{maskOps, maskState}
 use Rattle.engine.specs.MaskOps.Laws.{mask-open, mask-open-out, mask-close, mask-close-out}
@@ -103,7 +103,7 @@ module _ (q : Query) (a : T (admits q)) (y : Node) (d : Doc) where
   unfolding Quick.opens quickState
   quick-open =
       ap (λ r. r .state) opens-is
-      ∙ same-state frames-is queue-is (sym (count-open y d))
+      ∙ same-state frames-is queue-is (sym (count-opened y d))
       (handed-on q d (opened y d) _ (outAfter (o .all) (s .queue) (newcomer s) (o .went)) quick-open-out out-is) (finished-open y d)
 
 -- "an open after which more than 128 nodes would be held"
@@ -162,7 +162,7 @@ module _ (q : Query) (a : T (admits q)) (d : Doc) (some : T (isOpen d)) where
   unfolding Quick.closes quickState
   quick-close =
       ap (λ r. r .state) closes-is
-      ∙ same-state left-is waits-is (sym (count-close d)) (handed-on q d (closed d) _ (take (c .went) (c .waiting)) quick-close-out handed-is)
+      ∙ same-state left-is waits-is (sym (count-closed d)) (handed-on q d (closed d) _ (take (c .went) (c .waiting)) quick-close-out handed-is)
       (ap (λ n. eqb n 0) (ap length left-is ∙ quick-depth q (closed d)) ∙ finished-close d some)
 
 -- an event that fits

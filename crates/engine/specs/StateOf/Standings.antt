@@ -18,12 +18,9 @@ use Rattle.meaning.specs.Selection.Laws.{sure-possible}
 use Rattle.meaning.specs.Standing.{Standing, standing, standingsOf, standings, listedFrom, aliveFrom, heldFrom, listed, held}
 use Rattle.engine.specs.Need.{Need}
 use Rattle.engine.specs.Engine.{Place, Waiting, keepIf, keep, frontIf, front, pastIf, past, sures, posses, stands, certain, alive}
-use Rattle.engine.specs.StateOf.{ops, framesOf, places, number, framesAt, nodes, stateOf}
+use Rattle.engine.specs.StateOf.{ops, framesOf, places, number, numberOf, framesAt, nodes, stateOf}
 use Rattle.engine.specs.StateOf.Frames.{sures-readies, posses-readies}
 use Rattle.engine.specs.StateOf.Places.{stands-marks}
-
-abbrev numberOf : Waiting Need → ℕ
-numberOf w = w .number
 
 map-number : (s : Place Need → Bool) (i : ℕ) (xs : List (Place Need)) → map (λ (w : Waiting Need). s (w .place)) (number i xs) ≡ map s xs
 unfolding number

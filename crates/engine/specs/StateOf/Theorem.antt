@@ -2,7 +2,6 @@
 --
 --   open-state, close-state       an event of the engine leads to the state of the next document
 --   open-out, close-out           what it hands out is what that document newly lists
---   count-open, count-close       an open adds a node, a close none
 --   nodes-open, nodes-close       the nodes after an event: one more; each moved by `shift`
 --
 -- Assumes nothing.
@@ -15,19 +14,17 @@ use lib.ListN.{length, length-map, length-append}
 use Rattle.meaning.specs.Logic.{Imp, Pmi, Pre, both-pre}
 use Rattle.meaning.specs.Query.{Query, Steps}
 use Rattle.meaning.specs.Document.{Node, Doc, opened, closed, count}
+use Rattle.meaning.specs.Document.Laws.{count-opened, count-closed}
 use Rattle.meaning.specs.Selection.{sure-reading, open-reading, Ready, start, selections}
 use Rattle.meaning.specs.Selection.Laws.{sure-open, sure-close, possible-open, possible-close}
 use Rattle.meaning.specs.Standing.{listed}
 use Rattle.engine.specs.Need.{Need, itself}
 use Rattle.engine.specs.Engine.{Frame, Place, Waiting, State, keep, front, past, grow, certain, alive, settle, newcomer, openModel, exact, move, moveWaiting, closeModel}
 use Rattle.engine.specs.Queue.{Steady, steady, past-later, front-later}
-use Rattle.engine.specs.StateOf.{ops, framesOf, places, number, framesAt, nodes, stateOf}
+use Rattle.engine.specs.StateOf.{ops, framesOf, places, number, numberOf, framesAt, nodes, stateOf}
 use Rattle.engine.specs.StateOf.Frames.{frames-open, frames-close, length-frames}
 use Rattle.engine.specs.StateOf.Places.{places-open, places-close, length-places}
 use Rattle.engine.specs.StateOf.Standings.{certain-sure, alive-open, inside, front-listed}
-
-abbrev numberOf : Waiting Need → ℕ
-numberOf w = w .number
 
 -- numbering
 
@@ -89,14 +86,6 @@ Judged q fs ws n = settle (ops q) fs ws n .state
 
 -- an open
 
-pub count-open : (y : Node) (d : Doc) → count (opened y d) ≡ suc (count d)
-count-open y d =
-    sym (length-places [] (opened y d))
-    ∙ ap length (places-open [] y d)
-    ∙ length-append (places [] d) _
-    ∙ add-one (length (places [] d))
-    ∙ ap suc (length-places [] d)
-
 module _ (q : Query) (y : Node) (d : Doc) where
   abbrev N : Waiting Need
   N = newcomer (ops q) (stateOf q d)
@@ -124,7 +113,7 @@ module _ (q : Query) (y : Node) (d : Doc) where
       ∙ ap₂ (λ ws n. record { frames = G; queue = ws; opened = n })
       (ap (λ x. past (certain (ops q) G) (keep (alive (ops q) G) (x ++ (N ∷ [])))) (sym (map-id (stateOf q d .queue)))
       ∙ event-queue q d (opened y d) (λ w. w) (N ∷ []) (λ w. refl) nodes-open (sure-open q y d) (possible-open q y d))
-      (sym (count-open y d))
+      (sym (count-opened y d))
 
   pub open-out : listed q d ++ openModel (ops q) y (stateOf q d) .out ≡ listed q (opened y d)
   unfolding openModel settle stateOf
@@ -135,13 +124,6 @@ module _ (q : Query) (y : Node) (d : Doc) where
       ∙ event-out q d (opened y d) (λ w. w) (N ∷ []) (λ w. refl) nodes-open (sure-open q y d) (possible-open q y d)
 
 -- a close
-
-pub count-close : (d : Doc) → count (closed d) ≡ count d
-count-close d =
-    sym (length-places [] (closed d))
-    ∙ ap length (places-close [] d start start)
-    ∙ length-map (places [] d) _
-    ∙ length-places [] d
 
 module _ (q : Query) (d : Doc) where
   unfoldable pub shift : Waiting Need → Waiting Need
@@ -176,7 +158,7 @@ module _ (q : Query) (d : Doc) where
       ∙ ap₂ (λ ws n. record { frames = H; queue = ws; opened = n })
       (ap (λ x. past (certain (ops q) H) (keep (alive (ops q) H) x)) (sym (append-nil (map shift (stateOf q d .queue))))
       ∙ event-queue q d (closed d) shift [] shift-number all-shifted (both-pre (sure-close q d)) (both-pre (possible-close q d)))
-      (sym (count-close d))
+      (sym (count-closed d))
 
   pub close-out : listed q d ++ closeModel (ops q) (stateOf q d) .out ≡ listed q (closed d)
   unfolding closeModel settle stateOf shift

@@ -20,7 +20,7 @@ use lib.Dec.{eqb, ltb, leb·suc-suc}
 use lib.ListN.{length, getD}
 use borrow.Author.Tests.{eqb-true, eq-eqb, ne-eqb, lt-ltb}
 use Rattle.meaning.specs.Query.{Steps, Numbered}
-use Rattle.sets.specs.Set.{member, join, meet, covers, overlaps, digit, maskOf}
+use Rattle.sets.specs.Set.{member, join, meet, covers, overlaps, bit, maskOf}
 use Rattle.sets.specs.Set.Laws.{member-join, member-meet, same-members}
 use Rattle.sets.specs.Set.Of.{member-maskOf}
 use Rattle.sets.specs.Set.Order.{bool-iff}
@@ -65,20 +65,20 @@ mask-none (p ∷ ps) = ap (λ x. x * 2 + 0) (mask-none ps)
 eqb-by : (m n x y : ℕ) → (m ≡ n → x ≡ y) → (x ≡ y → m ≡ n) → eqb m n ≡ eqb x y
 eqb-by m n x y f g = bool-iff _ _ (λ e. eq-eqb x y (f (eqb-true m n e))) (λ e. eq-eqb m n (g (eqb-true x y e)))
 
-some-digit : (b : Bool) (x : ℕ) → (b || not (eqb x 0)) ≡ not (eqb (x * 2 + digit b) 0)
-some-digit true x = ap not (sym (ne-eqb (x * 2 + 1) 0 (λ e. omega arith)))
-some-digit false x = ap not (sym (eqb-by (x * 2 + 0) 0 x 0 (λ e. omega arith) (λ e. omega arith)))
+some-bit : (b : Bool) (x : ℕ) → (b || not (eqb x 0)) ≡ not (eqb (x * 2 + bit b) 0)
+some-bit true x = ap not (sym (ne-eqb (x * 2 + 1) 0 (λ e. omega arith)))
+some-bit false x = ap not (sym (eqb-by (x * 2 + 0) 0 x 0 (λ e. omega arith) (λ e. omega arith)))
 
 pub any-mask : (ps : List Numbered) (A : Steps) → anyOf ps A ≡ not (eqb (mask ps A) 0)
 unfolding anyOf mask maskOf at
 any-mask [] A = refl
-any-mask (p ∷ ps) A = ap (λ b. A (p .step) (p .number) || b) (any-mask ps A) ∙ some-digit (A (p .step) (p .number)) (mask ps A)
+any-mask (p ∷ ps) A = ap (λ b. A (p .step) (p .number) || b) (any-mask ps A) ∙ some-bit (A (p .step) (p .number)) (mask ps A)
 
 pub overlaps-mask : (ps : List Numbered) (A B : Steps) → anyOf ps (λ st i. A st i && B st i) ≡ overlaps (mask ps A) (mask ps B)
 unfolding overlaps
 overlaps-mask ps A B = any-mask ps _ ∙ ap (λ x. not (eqb x 0)) (mask-meet ps A B)
 
-eqb-digits : (x y : ℕ) (h k a : Bool) → eqb x y ≡ not a → eqb (x * 2 + digit (h && k)) (y * 2 + digit h) ≡ not ((h && not k) || a)
+eqb-digits : (x y : ℕ) (h k a : Bool) → eqb x y ≡ not a → eqb (x * 2 + bit (h && k)) (y * 2 + bit h) ≡ not ((h && not k) || a)
 eqb-digits x y true true a e = eqb-by (x * 2 + 1) (y * 2 + 1) x y (λ e. omega arith) (λ e. omega arith) ∙ e
 eqb-digits x y true false a e = ne-eqb (x * 2 + 0) (y * 2 + 1) (λ e. omega arith)
 eqb-digits x y false k a e = eqb-by (x * 2 + 0) (y * 2 + 0) x y (λ e. omega arith) (λ e. omega arith) ∙ e
@@ -112,7 +112,7 @@ Agree A B p = A (p .step) (p .number) ≡ B (p .step) (p .number)
 pub mask-agree : {ps : List Numbered} (A B : Steps) → Every (Agree A B) ps → mask ps A ≡ mask ps B
 unfolding mask maskOf at
 mask-agree A B eNil = refl
-mask-agree A B (eCons {x = p} {xs = ps} e t) = ap₂ (λ x b. x * 2 + digit b) (mask-agree {ps = ps} A B t) e
+mask-agree A B (eCons {x = p} {xs = ps} e t) = ap₂ (λ x b. x * 2 + bit b) (mask-agree {ps = ps} A B t) e
 
 pub any-agree : {ps : List Numbered} (A B : Steps) → Every (Agree A B) ps → anyOf ps A ≡ anyOf ps B
 unfolding anyOf
@@ -124,7 +124,7 @@ pub mask-front :
     mask (ps ++ rs) A ≡ mask ps A
 unfolding mask maskOf at
 mask-front [] {rs} A t = mask-agree A (λ st i. false) t ∙ mask-none rs
-mask-front (p ∷ ps) A t = ap (λ x. x * 2 + digit (A (p .step) (p .number))) (mask-front ps A t)
+mask-front (p ∷ ps) A t = ap (λ x. x * 2 + bit (A (p .step) (p .number))) (mask-front ps A t)
 
 -- place by place
 
@@ -133,7 +133,7 @@ listed-all :
     ((p : Numbered) → test (has p) ≡ A (p .step) (p .number)) → maskOf (length ps) (λ t. test (getD (map has ps) t d)) ≡ mask ps A
 unfolding mask maskOf at
 listed-all [] has d test A e = refl
-listed-all (p ∷ ps) has d test A e = ap₂ (λ x b. x * 2 + digit b) (listed-all ps has d test A e) (e p)
+listed-all (p ∷ ps) has d test A e = ap₂ (λ x b. x * 2 + bit b) (listed-all ps has d test A e) (e p)
 
 pub maskOf-listed :
     {B : Type 0} (n : ℕ) (ps : List Numbered) (has : Numbered → B) (d : B) (test : B → Bool) (A : Steps) →

@@ -13,10 +13,11 @@ use Prim.Native.Nat.{ℕ, zero, suc, _<_, _≤_}
 use native.Mathlib.Nat.{le-refl}
 use native.Mathlib.Omega.{arith}
 use mathlib.Core.Path.{_≡_, refl, sym, ap, ap₂, _∙_}
-use mathlib.Core.Bool.{Bool, true, false, _&&_, _||_, or-false, and-true, and-false, true≢false}
+use mathlib.Core.Bool.{Bool, true, false, _&&_, _||_, or-false, and-true, and-false}
 use mathlib.Core.List.{List, [], _∷_, _++_, reverseAux}
 use lib.Dec.{T, eqb, eqb·zero-suc}
 use borrow.Author.Tests.{eq-eqb, ne-eqb}
+use Rattle.meaning.specs.Logic.{neither}
 use Rattle.meaning.specs.Query.Laws.{Chain, cNil, cCons, path-chain, Starts, starts, path-some}
 use Rattle.meaning.specs.Query.{Step, Query, Steps, Numbered, mainIf, mainPath, lastOf, lastMain, admits}
 use Rattle.plan.specs.Order.{backPath, anyOf, at}
@@ -29,22 +30,22 @@ pub data Linked : ℕ → List Numbered → Type 0 where
 
 -- from the rules
 
-data Rising : ℕ → List Numbered → Type 0 where
-  rNil : {l : ℕ} → Rising l []
-  rCons : {l : ℕ} {p : Numbered} {ps : List Numbered} → l < p .number → Rising (p .number) ps → Rising l (p ∷ ps)
+data RisingNumbers : ℕ → List Numbered → Type 0 where
+  rNil : {l : ℕ} → RisingNumbers l []
+  rCons : {l : ℕ} {p : Numbered} {ps : List Numbered} → l < p .number → RisingNumbers (p .number) ps → RisingNumbers l (p ∷ ps)
 
-rise-if : (b : Bool) (st : Step) (i l : ℕ) {ps : List Numbered} → l < i → Rising i ps → Rising l ps → Rising l (mainIf b st i ps)
+rise-if : (b : Bool) (st : Step) (i l : ℕ) {ps : List Numbered} → l < i → RisingNumbers i ps → RisingNumbers l ps → RisingNumbers l (mainIf b st i ps)
 unfolding mainIf
 rise-if true st i l h r s = rCons {p = record { step = st; number = i }} h r
 rise-if false st i l h r s = s
 
-mains-rise : (q : Query) (i l : ℕ) → l < i → Rising l (mainPath q i)
+mains-rise : (q : Query) (i l : ℕ) → l < i → RisingNumbers l (mainPath q i)
 unfolding mainPath
 mains-rise [] i l h = rNil
 mains-rise (st ∷ q) i l h = rise-if (st .main) st i l h (mains-rise q (suc i) i (le-refl (suc i))) (mains-rise q (suc i) l (omega arith))
 
 turned-round :
-    {q : Query} {i near : ℕ} {ps qs : List Numbered} → Chain q i near ps → Rising near ps → Linked near qs →
+    {q : Query} {i near : ℕ} {ps qs : List Numbered} → Chain q i near ps → RisingNumbers near ps → Linked near qs →
     Linked (lastOf ps near) (reverseAux ps qs)
 unfolding lastOf
 turned-round cNil rNil t = t
@@ -153,10 +154,6 @@ wanted-shift N (ends e) t = refl
 wanted-shift N (links {near} {prev} {p} {ps} e d k t) n = want-from (p ∷ ps) N p (λ s l. refl) d k t n
 
 -- the first step of the list alone
-
-neither : (a b : Bool) → (a || b) ≡ false → (a ≡ false) × (b ≡ false)
-neither true b e = absurd (true≢false e)
-neither false b e = (refl, e)
 
 any-at : (ps : List Numbered) (A : Steps) → anyOf ps A ≡ false → (t : ℕ) → at ps A t ≡ false
 unfolding anyOf at

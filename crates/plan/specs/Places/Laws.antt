@@ -1,6 +1,5 @@
 -- Steps by their places in a list.
 --
---   holds                a test that passes is true
 --   stands-some, stands-under      the places of a list are those under its length
 --   stands-every         what holds of every step of a list holds at each place
 --   stands-kept          what is kept of each step, read at a place
@@ -19,35 +18,30 @@ use mathlib.Core.Path.{_≡_, refl, sym, ap, _∙_}
 use mathlib.Core.Bool.{Bool, true, false, _||_, false≢true}
 use mathlib.Core.List.{List, [], _∷_, _++_, map, reverse, reverseAux}
 use mathlib.Core.Logic.{_⊎_, inl, inr}
-use lib.Dec.{T}
 use lib.ListN.{length, getD, length-append, length-reverse}
 use Rattle.meaning.specs.Query.{Step, Query, Steps, Numbered, mainIf, mainPath}
 use Rattle.plan.specs.Every.{Every, eNil, eCons, every-append, every-reverse}
 use Rattle.plan.specs.Order.{predicateIf, predicates, backPath, order, anyOf, at}
-use Rattle.plan.specs.Places.{Stands, sHere, sThere, numbered}
+use Rattle.plan.specs.Places.{StandsAt, sHere, sThere, numbered}
 
-pub holds : (b : Bool) → T b → b ≡ true
-holds true h = refl
-holds false h = absurd h
-
-pub stands-some : (ps : List Numbered) (t : ℕ) → t < length ps → (p : Numbered) × Stands ps t p
+pub stands-some : (ps : List Numbered) (t : ℕ) → t < length ps → (p : Numbered) × StandsAt ps t p
 stands-some [] t l = absurd (omega arith)
 stands-some (p ∷ ps) zero l = (p, sHere)
 stands-some (p ∷ ps) (suc t) l = let r = stands-some ps t (le-of-suc-le-suc l) in (r .0, sThere (r .1))
 
-pub stands-under : {ps : List Numbered} {t : ℕ} {p : Numbered} → Stands ps t p → t < length ps
+pub stands-under : {ps : List Numbered} {t : ℕ} {p : Numbered} → StandsAt ps t p → t < length ps
 stands-under sHere = suc-le-suc zero-le
 stands-under (sThere s) = suc-le-suc (stands-under s)
 
-pub stands-every : {F : Numbered → Type 0} {ps : List Numbered} {t : ℕ} {p : Numbered} → Every F ps → Stands ps t p → F p
+pub stands-every : {F : Numbered → Type 0} {ps : List Numbered} {t : ℕ} {p : Numbered} → Every F ps → StandsAt ps t p → F p
 stands-every (eCons a t) sHere = a
 stands-every (eCons a t) (sThere s) = stands-every t s
 
-pub stands-kept : {ps : List Numbered} {t : ℕ} {p : Numbered} (kept : Numbered → ℕ) → Stands ps t p → getD (map kept ps) t 0 ≡ kept p
+pub stands-kept : {ps : List Numbered} {t : ℕ} {p : Numbered} (kept : Numbered → ℕ) → StandsAt ps t p → getD (map kept ps) t 0 ≡ kept p
 stands-kept kept sHere = refl
 stands-kept kept (sThere s) = stands-kept kept s
 
-pub at-stands : {ps : List Numbered} {t : ℕ} {p : Numbered} (A : Steps) → Stands ps t p → at ps A t ≡ A (p .step) (p .number)
+pub at-stands : {ps : List Numbered} {t : ℕ} {p : Numbered} (A : Steps) → StandsAt ps t p → at ps A t ≡ A (p .step) (p .number)
 unfolding at
 at-stands A sHere = refl
 at-stands A (sThere s) = at-stands A s
@@ -58,37 +52,37 @@ at-past [] A t l = refl
 at-past (p ∷ ps) A zero l = absurd (omega arith)
 at-past (p ∷ ps) A (suc t) l = at-past ps A t (le-of-suc-le-suc l)
 
-pub record Found (ps : List Numbered) (A : Steps) : Type 0 where
+pub record FoundAt (ps : List Numbered) (A : Steps) : Type 0 where
   pub place : ℕ
   pub step : Numbered
-  pub there : Stands ps place step
+  pub there : StandsAt ps place step
   pub holds : A (step .step) (step .number) ≡ true
 
-pub found : (ps : List Numbered) (A : Steps) → anyOf ps A ≡ true → Found ps A
+pub found : (ps : List Numbered) (A : Steps) → anyOf ps A ≡ true → FoundAt ps A
 unfolding anyOf
 found [] A e = absurd (false≢true e)
 found (p ∷ ps) A e = go (A (p .step) (p .number)) refl e (found ps A)
   where
-    go : (b : Bool) → A (p .step) (p .number) ≡ b → (b || anyOf ps A) ≡ true → (anyOf ps A ≡ true → Found ps A) → Found (p ∷ ps) A
+    go : (b : Bool) → A (p .step) (p .number) ≡ b → (b || anyOf ps A) ≡ true → (anyOf ps A ≡ true → FoundAt ps A) → FoundAt (p ∷ ps) A
     go true is e′ rest = record { place = zero; step = p; there = sHere; holds = is }
     go false is e′ rest = let f = rest e′ in record { place = suc (f .place); step = f .step; there = sThere (f .there); holds = f .holds }
 
 -- two lists
 
-pub stands-left : (ps rs : List Numbered) {t : ℕ} {p : Numbered} → t < length ps → Stands (ps ++ rs) t p → Stands ps t p
+pub stands-left : (ps rs : List Numbered) {t : ℕ} {p : Numbered} → t < length ps → StandsAt (ps ++ rs) t p → StandsAt ps t p
 stands-left [] rs l s = absurd (omega arith)
 stands-left (x ∷ ps) rs l sHere = sHere
 stands-left (x ∷ ps) rs l (sThere s) = sThere (stands-left ps rs (le-of-suc-le-suc l) s)
 
 pub stands-split :
-    (ps rs : List Numbered) {t : ℕ} {p : Numbered} → Stands (ps ++ rs) t p → Stands ps t p ⊎ ((length ps ≤ t) × ((u : ℕ) × Stands rs u p))
+    (ps rs : List Numbered) {t : ℕ} {p : Numbered} → StandsAt (ps ++ rs) t p → StandsAt ps t p ⊎ ((length ps ≤ t) × ((u : ℕ) × StandsAt rs u p))
 stands-split [] rs {t} s = inr (zero-le, (t, s))
 stands-split (x ∷ ps) rs sHere = inl sHere
 stands-split (x ∷ ps) rs (sThere s) = go (stands-split ps rs s)
   where
     go :
-        {t : ℕ} {p : Numbered} → Stands ps t p ⊎ ((length ps ≤ t) × ((u : ℕ) × Stands rs u p)) →
-        Stands (x ∷ ps) (suc t) p ⊎ ((suc (length ps) ≤ suc t) × ((u : ℕ) × Stands rs u p))
+        {t : ℕ} {p : Numbered} → StandsAt ps t p ⊎ ((length ps ≤ t) × ((u : ℕ) × StandsAt rs u p)) →
+        StandsAt (x ∷ ps) (suc t) p ⊎ ((suc (length ps) ≤ suc t) × ((u : ℕ) × StandsAt rs u p))
     go (inl s′) = inl (sThere s′)
     go (inr (l, r)) = inr (suc-le-suc l, r)
 
@@ -147,7 +141,7 @@ pub data Distinct : List Numbered → Type 0 where
   dNil : Distinct []
   dCons : {p : Numbered} {ps : List Numbered} → Every (Apart p) ps → Distinct ps → Distinct (p ∷ ps)
 
-pub distinct-once : {ps : List Numbered} {t u : ℕ} {p r : Numbered} → Distinct ps → Stands ps t p → Stands ps u r → p .number ≡ r .number → t ≡ u
+pub distinct-once : {ps : List Numbered} {t u : ℕ} {p r : Numbered} → Distinct ps → StandsAt ps t p → StandsAt ps u r → p .number ≡ r .number → t ≡ u
 distinct-once (dCons a d) sHere sHere e = refl
 distinct-once (dCons a d) sHere (sThere s) e = absurd (stands-every a s e)
 distinct-once (dCons a d) (sThere s) sHere e = absurd (stands-every a s (sym e))

@@ -15,14 +15,15 @@ use mathlib.Core.Logic.{_⊎_, inl, inr}
 use lib.Dec.{T, eqb, ltb}
 use lib.ListN.{length}
 use borrow.Author.Tests.{eqb-true, eq-eqb, lt-ltb, le-ltb}
+use Rattle.meaning.specs.Logic.{is-true}
 use Rattle.meaning.specs.Query.{Step, Query, At, here, there, Numbered, mainIf, mainPath, admits}
 use Rattle.meaning.specs.Query.Laws.{any-intro, at-least, at-unique}
 use Rattle.plan.specs.Every.{Every, eNil, eCons, every-map, every-reverse, every-both}
 use Rattle.plan.specs.Order.{predicateIf, predicates, backPath, order}
 use Rattle.plan.specs.Order.All.{path-main, predicates-main, any-order}
 use Rattle.plan.specs.Order.Path.{Linked, ends, links, path-linked, lastMain-positive}
-use Rattle.plan.specs.Places.{Stands, sHere, sThere, numbered, mains, OrderRight}
-use Rattle.plan.specs.Places.Laws.{holds, stands-some, stands-under, stands-every, Found, found, stands-left, stands-split}
+use Rattle.plan.specs.Places.{StandsAt, sHere, sThere, numbered, mains, OrderRight}
+use Rattle.plan.specs.Places.Laws.{stands-some, stands-under, stands-every, FoundAt, found, stands-left, stands-split}
 use Rattle.plan.specs.Places.Laws.{order-length, every-mains, every-predicates, every-order}
 use Rattle.plan.specs.Places.Laws.{Apart, Distinct, dNil, dCons, distinct-once, distinct-append, distinct-reverse}
 
@@ -95,14 +96,14 @@ linked-some : {near : ℕ} {ps : List Numbered} → 0 < near → Linked near ps 
 linked-some h (ends e) = absurd (omega arith)
 linked-some h (links e d k l) = suc-le-suc zero-le
 
-linked-last : {near : ℕ} {ps : List Numbered} {p : Numbered} → Linked near ps → Stands ps 0 p → p .number ≡ near
+linked-last : {near : ℕ} {ps : List Numbered} {p : Numbered} → Linked near ps → StandsAt ps 0 p → p .number ≡ near
 linked-last (links e d k l) sHere = sym e
 
-linked-next : {near t : ℕ} {ps : List Numbered} {p r : Numbered} → Linked near ps → Stands ps (suc t) p → Stands ps t r → r .step .parent ≡ p .number
+linked-next : {near t : ℕ} {ps : List Numbered} {p r : Numbered} → Linked near ps → StandsAt ps (suc t) p → StandsAt ps t r → r .step .parent ≡ p .number
 linked-next (links e d k l) (sThere s) sHere = d ∙ sym (linked-last l s)
 linked-next (links e d k l) (sThere s) (sThere u) = linked-next l s u
 
-linked-start : {near t : ℕ} {ps : List Numbered} {p : Numbered} → Linked near ps → suc t ≡ length ps → Stands ps t p → p .step .parent ≡ 0
+linked-start : {near t : ℕ} {ps : List Numbered} {p : Numbered} → Linked near ps → suc t ≡ length ps → StandsAt ps t p → p .step .parent ≡ 0
 linked-start (links e d k (ends none)) l sHere = d ∙ none
 linked-start (links e d k (links e′ d′ k′ l′)) l sHere = absurd (omega arith)
 linked-start (links e d k r) l (sThere s) = linked-start r (omega arith) s
@@ -110,23 +111,23 @@ linked-start (links e d k r) l (sThere s) = linked-start r (omega arith) s
 -- the order
 
 module _ (q : Query) where
-  order-each : {st : Step} {i : ℕ} → At q 1 st i → (t : ℕ) × Stands (order q) t (record { step = st; number = i })
+  order-each : {st : Step} {i : ℕ} → At q 1 st i → (t : ℕ) × StandsAt (order q) t (record { step = st; number = i })
   order-each {st} {i} a =
       let some = any-intro (λ u j. eqb j i) a (subst T (sym (eq-eqb i i refl)) tt) in
-      let f : Found (order q) (λ u j. eqb j i) = found (order q) (λ u j. eqb j i) (sym (any-order q (λ u j. eqb j i)) ∙ holds _ some) in
+      let f : FoundAt (order q) (λ u j. eqb j i) = found (order q) (λ u j. eqb j i) (sym (any-order q (λ u j. eqb j i)) ∙ is-true _ some) in
       let number : f .step .number ≡ i = eqb-true _ _ (f .holds) in
       let step : f .step .step ≡ st = at-unique (subst (At q 1 (f .step .step)) number (stands-every (order-at q) (f .there))) a in
-      (f .place, subst (Stands (order q) (f .place)) (ap₂ (λ s n. record { step = s; number = n }) step number) (f .there))
+      (f .place, subst (StandsAt (order q) (f .place)) (ap₂ (λ s n. record { step = s; number = n }) step number) (f .there))
 
-  order-front : {t : ℕ} {p : Numbered} → Stands (order q) t p → p .step .main ≡ ltb t (mains q)
+  order-front : {t : ℕ} {p : Numbered} → StandsAt (order q) t p → p .step .main ≡ ltb t (mains q)
   unfolding order
   order-front {t} {p} s = go (stands-split (backPath q) (predicates q 1) s)
     where
-      go : Stands (backPath q) t p ⊎ ((mains q ≤ t) × ((u : ℕ) × Stands (predicates q 1) u p)) → p .step .main ≡ ltb t (mains q)
+      go : StandsAt (backPath q) t p ⊎ ((mains q ≤ t) × ((u : ℕ) × StandsAt (predicates q 1) u p)) → p .step .main ≡ ltb t (mains q)
       go (inl on) = stands-every (path-main q) on ∙ sym (lt-ltb t (mains q) (stands-under on))
       go (inr (l, (u, off))) = stands-every (predicates-main q 1) off ∙ sym (le-ltb t (mains q) l)
 
-  on-path : {t : ℕ} {p : Numbered} → t < mains q → Stands (order q) t p → Stands (backPath q) t p
+  on-path : {t : ℕ} {p : Numbered} → t < mains q → StandsAt (order q) t p → StandsAt (backPath q) t p
   unfolding order
   on-path l s = stands-left (backPath q) (predicates q 1) l s
 

@@ -18,6 +18,7 @@ use lib.ListN.{length, getD, length-map, length-append, List·getD-eq-default}
 use lib.Pow.{pow-pos}
 use lib.Seq.{ext-getD}
 use borrow.Author.Tests.{le-ltb}
+use Rattle.meaning.specs.Logic.{is-true}
 use Rattle.meaning.specs.Query.{Query, Steps, Numbered, hangs, goesDeep, allStep, admits}
 use Rattle.meaning.specs.Query.Laws.{all-intro, all-elim}
 use Rattle.meaning.specs.Selection.{start}
@@ -32,8 +33,8 @@ use Rattle.plan.specs.Order.All.{predicates-main, any-order, all-any}
 use Rattle.plan.specs.Plan as Of
 use Rattle.plan.specs.Plan.{plan}
 use Rattle.plan.specs.Plan.Laws.{plan-size, plan-first}
-use Rattle.plan.specs.Places.{Stands, mains, OrderRight, PlanRight}
-use Rattle.plan.specs.Places.Laws.{holds, stands-some, stands-kept, at-stands, at-past, order-length}
+use Rattle.plan.specs.Places.{StandsAt, mains, OrderRight, PlanRight}
+use Rattle.plan.specs.Places.Laws.{stands-some, stands-kept, at-stands, at-past, order-length}
 use Rattle.plan.specs.Places.Order.{order-right}
 
 pub none-hangs : (q : Query) (s : ℕ) → eqb (mask (order q) (λ t i. hangs t s)) 0 ≡ allStep q 1 (λ t i. not (hangs t s))
@@ -47,7 +48,7 @@ first-order q = mask-front (backPath q) (start .steps) (every-map (λ p e. ap (�
 -- bits and places
 
 module _ (q : Query) (A : Steps) where
-  bit-stands : {t : ℕ} {p : Numbered} → Stands (order q) t p → member (mask (order q) A) t ≡ A (p .step) (p .number)
+  bit-stands : {t : ℕ} {p : Numbered} → StandsAt (order q) t p → member (mask (order q) A) t ≡ A (p .step) (p .number)
   bit-stands {t} s = member-mask (order q) A t ∙ at-stands A s
 
   bit-past : (t : ℕ) → length q ≤ t → member (mask (order q) A) t ≡ false
@@ -74,10 +75,10 @@ module _ (q : Query) (R : OrderRight q) where
       go (no f) = bit-past q (λ st i. st .main) t (omega arith) ∙ sym (le-ltb t (mains q) (omega (arith, few)))
 
   plain-bits :
-      (s : ℕ) → (allStep q 1 (λ t i. not (hangs t s)) ≡ true) ↔ ((u : ℕ) (r : Numbered) → Stands (order q) u r → hangs (r .step) s ≡ false)
+      (s : ℕ) → (allStep q 1 (λ t i. not (hangs t s)) ≡ true) ↔ ((u : ℕ) (r : Numbered) → StandsAt (order q) u r → hangs (r .step) s ≡ false)
   plain-bits s = (
     λ e u r there. fails _ (all-elim (λ t i. not (hangs t s)) (subst T (sym e) tt) (R .only there)),
-    λ f. holds _ (all-intro q 1 (λ t i. not (hangs t s)) (λ st i a. let p = R .each a in subst (λ b. T (not b)) (sym (f (p .0) _ (p .1))) tt)),
+    λ f. is-true _ (all-intro q 1 (λ t i. not (hangs t s)) (λ st i a. let p = R .each a in subst (λ b. T (not b)) (sym (f (p .0) _ (p .1))) tt)),
   )
 
   hanging : Numbered → ℕ

@@ -20,7 +20,7 @@ use lib.ListN.{length, length-map}
 use borrow.Author.Tests.{eq-eqb, ne-eqb}
 use Rattle.meaning.specs.Query.{Query, Numbered, admits}
 use Rattle.meaning.specs.Selection.{start}
-use Rattle.sets.specs.Set.{join, meet, digit, maskOf}
+use Rattle.sets.specs.Set.{join, meet, bit, maskOf}
 use Rattle.sets.specs.Set.Of.{maskOf-under}
 use Rattle.plan.specs.Every.{every-map}
 use Rattle.plan.specs.Order.{backPath, order, at, mask}
@@ -51,9 +51,9 @@ plan-main q =
 first-mask : {near : ℕ} {ps : List Numbered} → 0 < near → Linked near ps → mask ps (λ st i. eqb (st .parent) 0) ≡ 2 ^ pred (length ps)
 unfolding mask maskOf at
 first-mask l (ends e) = absurd (omega arith)
-first-mask l (links {near} {prev} {p} e d k (ends z)) = ap (λ b. 0 * 2 + digit b) (eq-eqb (p .step .parent) 0 (d ∙ z))
+first-mask l (links {near} {prev} {p} e d k (ends z)) = ap (λ b. 0 * 2 + bit b) (eq-eqb (p .step .parent) 0 (d ∙ z))
 first-mask l (links {near} {prev} {p} {ps} e d k (links {prev = last} {p = p′} {ps = ps′} e′ d′ k′ t′)) =
-    ap₂ (λ x b. x * 2 + digit b) (first-mask (omega arith) (links {p = p′} e′ d′ k′ t′)) (ne-eqb (p .step .parent) 0 (λ x. omega arith))
+    ap₂ (λ x b. x * 2 + bit b) (first-mask (omega arith) (links {p = p′} e′ d′ k′ t′)) (ne-eqb (p .step .parent) 0 (λ x. omega arith))
     ∙ omega (arith, pow-suc 2 (length ps′))
 
 pub plan-first : (q : Query) → T (admits q) → plan q .first ≡ 2 ^ pred (length (backPath q))

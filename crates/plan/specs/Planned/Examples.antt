@@ -17,11 +17,11 @@ use Rattle.plan.specs.Plan.{plan}
 use Rattle.plan.specs.Planned.{filled, columns, planOf}
 use Rattle.plan.specs.declared.Plan.{Plan}
 
-pub record Row : Type 0 where
+pub record PlanRow : Type 0 where
   pub bytes : List ℕ
   pub made : Plan
 
-abbrev pub rows : List Row
+abbrev pub rows : List PlanRow
 rows =
     -- P1: //section[author]//table[position]//cell. The places are cell, table, section, author, position
     record {
@@ -56,6 +56,6 @@ rows =
     ∷ record { bytes = []; made = record { names = filled []; hung = filled []; size = 0; deep = 0; main = 0; plain = 0; first = 0 } }
     ∷ []
 
-pub rows-right : map (λ (r : Row). planOf (r .bytes)) rows ≡ map (λ (r : Row). r .made) rows
+pub rows-right : map (λ (r : PlanRow). planOf (r .bytes)) rows ≡ map (λ (r : PlanRow). r .made) rows
 unfolding maskOf at allStep hangs goesDeep mainIf mainPath start axisMeant decodeStep decodeFrom predicateIf predicates backPath order mask plan columns planOf
 rows-right = refl

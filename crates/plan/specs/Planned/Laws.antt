@@ -29,7 +29,7 @@ use Rattle.plan.specs.Places.Laws.{order-length}
 use Rattle.plan.specs.Places.Order.{order-right}
 use Rattle.plan.specs.Places.Plan.{plan-right}
 use Rattle.plan.specs.Planned.{sizeOf, planned, zeros, filled, columns, planOf, PlanGives, Columns, Long}
-use Rattle.plan.specs.Planned.Steps.{from-length}
+use Rattle.query.specs.Decode.Laws.{from-length}
 use Rattle.plan.specs.declared.Plan.{Plan}
 
 pub planned-all : (q : List ℕ) → length (decode q) ≤ mostSteps → planned q ≡ decode q

@@ -1,6 +1,5 @@
 -- The steps of the planned query, and what a plan's slots and masks are where each place is read through the order.
 --
---   from-length        as many steps as were decoded
 --   Whose q p          p is the step of the bytes q that its number says
 --   order-whose        each step of the order is
 --   read-table         slots made place by place from what is kept of each step
@@ -14,7 +13,7 @@ use mathlib.Core.Bool.{Bool}
 use mathlib.Core.List.{List, _∷_, _++_, map}
 use lib.ListN.{length, getD}
 use Rattle.meaning.specs.Query.{Steps, Numbered}
-use Rattle.sets.specs.Set.{digit, maskOf}
+use Rattle.sets.specs.Set.{bit, maskOf}
 use Rattle.sets.specs.Table.{tableOf}
 use Rattle.query.specs.Decode.{decodeFrom}
 use Rattle.plan.specs.Every.{Every, eNil, eCons}
@@ -22,11 +21,6 @@ use Rattle.plan.specs.Order.{order, at, mask}
 use Rattle.plan.specs.Places.{numbered}
 use Rattle.plan.specs.Places.Laws.{every-order}
 use Rattle.plan.specs.Planned.{stepAt, before}
-
-pub from-length : (q : List ℕ) (n s : ℕ) → length (decodeFrom q n s) ≡ n
-unfolding decodeFrom
-from-length q zero s = refl
-from-length q (suc n) s = ap suc (from-length q n (suc s))
 
 -- whose
 
@@ -63,4 +57,4 @@ module _ (kept : Numbered → ℕ) (zs : List ℕ) where
       maskOf (length ps) (λ t. test (getD (map kept ps ++ zs) t 0)) ≡ mask ps A
   unfolding maskOf at mask
   read-mask test A eNil = refl
-  read-mask test A (eCons e t) = ap₂ (λ x b. x * 2 + digit b) (read-mask test A t) e
+  read-mask test A (eCons e t) = ap₂ (λ x b. x * 2 + bit b) (read-mask test A t) e

@@ -1,6 +1,6 @@
 -- An admitted query is one of crate meaning's, and every theorem there applies to it.
 --
---   decode-length       as many steps as records
+--   from-length, decode-length     as many steps as were decoded; as records
 --   decode-step         step s + 1 is what its record means
 --   rules-exactly       crate meaning's rules hold of the decoded steps exactly if each hangs by the rules
 --   meant               an admitted query meets crate meaning's rules, and has 1 to 32 steps
@@ -18,13 +18,15 @@ use borrow.Author.Tests.{le-leb}
 use lib.Dec.{T}
 use lib.ListN.{length, getD}
 use lib.Seq.{getD-take, getD-drop}
+use Rattle.meaning.specs.Logic.{is-true}
 use Rattle.meaning.specs.Name.{lastName}
+use Rattle.meaning.specs.Record.{Bytes}
 use Rattle.meaning.specs.Query.{Step, rules, isEmpty, admits}
 use Rattle.query.specs.Rules.{Right, steps, stepOf, axisByte, roleByte, nameNumber, axisRule, roleRule, nearest, hangRule, keeps}
 use Rattle.query.specs.Rules.Laws.{hangRule-is, right-length}
 use Rattle.query.specs.Answer.{admitted, answerTo, Kept}
 use Rattle.query.specs.Answer.Laws.{admitted-exactly}
-use Rattle.query.specs.Decode.{decodeStep, decodeFrom, decode, Bytes, Meant, Shaped}
+use Rattle.query.specs.Decode.{decodeStep, decodeFrom, decode, Meant, Shaped}
 
 -- tests
 
@@ -39,13 +41,9 @@ second : (a b : Bool) → (a && b) ≡ true → b ≡ true
 second true b e = e
 second false b e = absurd (true≢false (sym e))
 
-holds : (b : Bool) → T b → b ≡ true
-holds true h = refl
-holds false h = absurd h
-
 -- the decoded steps
 
-from-length : (q : List ℕ) (n s : ℕ) → length (decodeFrom q n s) ≡ n
+pub from-length : (q : List ℕ) (n s : ℕ) → length (decodeFrom q n s) ≡ n
 unfolding decodeFrom
 from-length q zero s = refl
 from-length q (suc n) s = ap suc (from-length q n (suc s))
@@ -139,6 +137,6 @@ admitted-exactly-admits q bytes shaped =
       λ given. meant q bytes given .admitted,
       λ passed. admitted-exactly q .1 (record {
         right = shaped .right;
-        each = λ s there. shaped-keeps q shaped s there (rules-exactly q bytes .0 (sym (admits-is q right) ∙ holds _ passed) s there);
+        each = λ s there. shaped-keeps q shaped s there (rules-exactly q bytes .0 (sym (admits-is q right) ∙ is-true _ passed) s there);
       }),
     )

@@ -7,12 +7,13 @@
 -- Assumes nothing. NOT here: what `nearest` finds (Rules.Nearest).
 use Prim.Native.Nat.{ℕ, zero, suc, _%_}
 use mathlib.Core.Path.{_≡_, refl, sym}
-use mathlib.Core.Bool.{Bool, true, false, not, _&&_, _||_, and-true, true≢false}
+use mathlib.Core.Bool.{Bool, true, false, not, _&&_, _||_, and-true}
 use mathlib.Core.List.{List}
 use mathlib.Core.Logic.{_≢_}
 use native.Mathlib.Omega.{arith}
 use borrow.Author.Tests.{eqb-true, eqb-false, ltb-false, not-false}
 use lib.Dec.{eqb, leb, ltb, leb·zero, leb·suc-zero, leb·suc-suc, eqb·suc-zero}
+use Rattle.meaning.specs.Logic.{neither}
 use Rattle.meaning.specs.Query.{hangsRight}
 use Rattle.query.specs.Rules.{stepBytes, longest, wrongLength, Right, stepOf, onByte, isMain, nearest, laterRule, hangRule, keeps, keepsWith}
 
@@ -43,10 +44,6 @@ hangRule-is q (suc s) = later-is (isMain (stepOf q (suc s))) (onByte (stepOf q (
 pub keeps-is : (q : List ℕ) (s : ℕ) → keeps q s ≡ keepsWith (stepOf q s) (suc s) (nearest q s)
 unfolding keeps keepsWith
 keeps-is q s = rw (hangRule-is q s)
-
-neither : (a b : Bool) → (a || b) ≡ false → (a ≡ false) × (b ≡ false)
-neither true b e = absurd (true≢false e)
-neither false b e = (refl, e)
 
 pub right-length : (n : ℕ) → wrongLength n ≡ false → Right n
 right-length n e =

@@ -1,15 +1,17 @@
+-- `all_go` is `allGo`, by its one test. Assumes nothing.
 use Rattle.queue.specs.Queue.{allGo}
-use Rattle.choice.specs.Tests.{tests}
+use Rattle.choice.specs.Pick.{pick-yes, pick-no}
+use mathlib.Core.Path.{refl}
 use Rattle.queue.proofs.all_go.Statement.{statement}
 use Rattle.queue.proofs.all_go.Tie as tie
 
 returns : tie.Need-returns
 unfolding allGo
-returns c = search tests depth 12
+returns c = pick-yes _ _ _ _ (c .if1 .taken) refl
 
 returns-2 : tie.Need-returns-2
 unfolding allGo
-returns-2 c = search tests depth 12
+returns-2 c = pick-no _ _ _ _ (c .if1 .left) refl
 
 pub all-go-spec : {M : Type 1} → statement M
 all-go-spec = tie.close (tie.spec returns returns-2)

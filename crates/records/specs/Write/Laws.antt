@@ -1,5 +1,6 @@
 -- What is written as list records is read again.
 --
+--   sets-four           four bytes written one after the other, as one run
 --   length-records      a list record has 4 bytes;  records-append: records end to end
 --   length-nodes        k list records are k nodes
 --   nodesIn-append      nodes that were written as list records are read as the nodes, and then those of the records behind them
@@ -8,11 +9,18 @@
 -- Assumes nothing.
 use Prim.Native.Nat.{ℕ, zero, suc, _+_, _*_, _/_, _%_, _<_}
 use native.Mathlib.Nat.{zero-add, add-zero, suc-add, div-div-eq-div-mul}
+use native.Mathlib.Numerals.{add-one}
 use native.Mathlib.Omega.{arith}
 use mathlib.Core.Path.{_≡_, refl, sym, ap, ap₂, _∙_}
 use mathlib.Core.List.{List, [], _∷_, _++_, append-nil, append-assoc}
-use lib.ListN.{length, getD, length-append}
+use lib.ListN.{length, getD, set, length-append}
+use lib.Seq.{sets}
+use Rattle.choice.specs.Count.{add-two, add-three}
 use Rattle.records.specs.Write.{nodeBytes, recordsOf, nodeAt, nodesIn}
+
+pub sets-four :
+    (l : List ℕ) (at a b c d : ℕ) → set (set (set (set l at a) (at + 1) b) (at + 2) c) (at + 3) d ≡ sets l at (a ∷ b ∷ c ∷ d ∷ [])
+sets-four l at a b c d = rw (add-one at, add-two at, add-three at)
 
 pub length-records : (ns : List ℕ) → length (recordsOf ns) ≡ 4 * length ns
 unfolding recordsOf
