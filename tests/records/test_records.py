@@ -6,6 +6,7 @@ The P cases need the second program (cargo build --release in tests/) or another
 """
 import hashlib
 import os
+import re
 import subprocess
 import sys
 import tempfile
@@ -415,9 +416,9 @@ class BadInput(Folder):
                 os.mkdir(os.path.join(self.folder.name, "folder"))
 
     def test_a_full_names_list(self):
-        self.put("names.txt", b"".join(b"n%d\n" % n for n in range(65535)))
-        self.well("query", "/n65534")
-        self.assertIn("name numbers end at 65535", self.ill("query", "/new"))
+        self.put("names.txt", b"".join(b"n%d\n" % n for n in range(65534)))
+        self.well("query", "/n65533")
+        self.assertIn("a word's number is at most 65534", self.ill("query", "/new"))
 
     def test_a_names_list_that_is_no_text(self):
         self.put("names.txt", "a\n".encode("utf-16"))
@@ -440,6 +441,23 @@ class BadInput(Folder):
 
     def test_version(self):
         self.assertRegex(self.well("--version"), r"^records [0-9.]+ ")
+
+
+class Exporter(Folder):
+    """The exporter that docs/FORMATS.md shows."""
+
+    def test_it_writes_what_the_tool_reads(self):
+        with open(os.path.join(HERE, "..", "..", "docs", "FORMATS.md"), encoding="utf-8") as page:
+            self.put("exporter.py", re.search(r"```python\n(.*?)```", page.read(), re.S)[1].encode())
+        self.put("names.txt", b"d\n")
+        xml = "<!-- before --><r k='1'>text<d/><!-- inside --><ns:d xmlns:ns='x'>more</ns:d></r><!-- after -->"
+        subprocess.run([sys.executable, "exporter.py"], cwd=self.folder.name, input=xml, text=True, check=True)
+        self.assertEqual(self.file("names.txt"), b"d\nr\nns:d\n")
+        self.assertEqual(self.well("show", "events.rec").splitlines()[1], "r(d 65535 ns:d)")
+        self.well("query", "/r/*")
+        self.assertIn("agree", self.well("check"))
+        came = subprocess.run([PROGRAM], cwd=self.folder.name, capture_output=True, text=True).stdout
+        self.assertEqual(came, "2\n3\n4\nend 3\n", "a comment is an element here")
 
 
 class Study(Folder):

@@ -6,6 +6,8 @@ from pathlib import Path
 from lib.text import Bad, is_name, is_number
 
 MOST_NAME = 65535
+# The last number is what the exporter writes for a comment, so no word gets it.
+MOST_WORD = MOST_NAME - 1
 SEAL = re.compile(r"file ([0-9a-f]{64})\nnames ([0-9]{1,5})\nlist ([0-9a-f]{64})\n")
 
 
@@ -37,8 +39,8 @@ class Names:
             self.words.append(word)
             self.places[word] = len(self.words)
         number = self.places[word]
-        if number > MOST_NAME:
-            raise Bad(f"{word} would have the number {number} in {self.path}, and name numbers end at {MOST_NAME}")
+        if number > MOST_WORD:
+            raise Bad(f"{word} would have the number {number} in {self.path}, and a word's number is at most {MOST_WORD}")
         self.used = max(self.used, number)
         return number
 
