@@ -164,6 +164,13 @@ class Writing(Folder):
         self.assertEqual(read[0].hex(" ", 8), "0100000100000000 0200000100000000")
         self.assertEqual(sorted(os.listdir(self.folder.name)), ["events.rec", "names.txt"])
 
+    def test_standard_output_and_devices_are_written_into(self):
+        done = subprocess.run([sys.executable, RECORDS, "events", "r", "-o", "/dev/stdout"], cwd=self.folder.name,
+                              capture_output=True)
+        self.assertEqual(done.stdout.hex(" ", 8), "0100000100000000 0200000100000000")
+        self.well("events", "r", "-o", "/dev/null")
+        self.assertEqual(os.listdir(self.folder.name), ["names.txt"])
+
     def test_a_link_stays_a_link(self):
         os.symlink("there", os.path.join(self.folder.name, "query.rec"))
         self.well("query", "/a")

@@ -32,7 +32,7 @@ def remove(path):
 
 def put(files):
     """Writes all of (path, bytes), and nothing if one of them cannot be written. A link stays a link."""
-    files = [(os.path.realpath(path), data) for path, data in files]
+    files = [(os.path.realpath(path) if is_plain(path) else path, data) for path, data in files]
     for path, _ in files:
         if os.path.isdir(path):
             raise IsADirectoryError(errno.EISDIR, os.strerror(errno.EISDIR), path)
