@@ -1,15 +1,35 @@
-// Compares the proved query check with the plain one of plain.rs. Usage: compare [SEED]
+// Compares the proved query check with the plain one of plain.rs. Usage: compare PROGRAM [SEED]
+// PROGRAM is answers.c with the proved check.
 mod plain;
 use plain::Answer;
 use std::collections::BTreeMap;
+use std::io::Write;
+use std::process::{Command, Stdio};
 
-extern "C" {
-    // 0: admitted; else the refusal number, and 256 times the step's number with it
-    fn compassflare_check(query: *const u8, bytes: usize) -> u32;
-}
-
-fn proved(query: &[u8]) -> u32 {
-    unsafe { compassflare_check(query.as_ptr(), query.len()) }
+// What the proved check answers to each query: 0 for admitted; else the refusal number, and 256 times the step's number
+// with it.
+fn proved(program: &str, queries: &[Vec<u8>]) -> Vec<u32> {
+    let mut asked = Vec::new();
+    for query in queries {
+        asked.extend((query.len() as u16).to_be_bytes());
+        asked.extend(query);
+    }
+    let mut child = Command::new(program)
+        .stdin(Stdio::piped())
+        .stdout(Stdio::piped())
+        .spawn()
+        .expect("PROGRAM starts");
+    let mut input = child.stdin.take().unwrap();
+    // Beside the reading: neither pipe has room for everything.
+    let asking = std::thread::spawn(move || input.write_all(&asked));
+    let output = child.wait_with_output().expect("PROGRAM answers");
+    asking.join().unwrap().expect("PROGRAM reads the queries");
+    assert_eq!(output.stdout.len(), 4 * queries.len(), "an answer to each");
+    output
+        .stdout
+        .chunks(4)
+        .map(|answer| u32::from_be_bytes(answer.try_into().unwrap()))
+        .collect()
 }
 
 fn packed(answer: Answer) -> u32 {
@@ -82,46 +102,55 @@ fn changed(random: &mut Random) -> Vec<u8> {
     query
 }
 
-#[derive(Default)]
 struct Tally {
+    program: String,
+    queries: Vec<Vec<u8>>,
     passed: usize,
     failed: usize,
-    answers: BTreeMap<String, usize>,
 }
 
 impl Tally {
     fn hold(&mut self, query: &[u8]) {
-        let (want, got) = (plain::answer(query), proved(query));
-        *self
-            .answers
-            .entry(format!("{want:?}").split('(').next().unwrap().to_string())
-            .or_default() += 1;
-        if packed(want) == got {
-            self.passed += 1;
-        } else {
-            self.failed += 1;
-            if self.failed <= 10 {
-                println!("differs: {query:?}\n  plain {want:?}, proved {got}");
+        self.queries.push(query.to_vec());
+    }
+    // Compares what was held since the last time.
+    fn tell(&mut self, what: &str) {
+        let mut answers: BTreeMap<String, usize> = BTreeMap::new();
+        let queries = std::mem::take(&mut self.queries);
+        for (query, got) in queries.iter().zip(proved(&self.program, &queries)) {
+            let want = plain::answer(query);
+            let kind = format!("{want:?}").split('(').next().unwrap().to_string();
+            *answers.entry(kind).or_default() += 1;
+            if packed(want) == got {
+                self.passed += 1;
+            } else {
+                self.failed += 1;
+                if self.failed <= 10 {
+                    println!("differs: {query:?}\n  plain {want:?}, proved {got}");
+                }
             }
         }
-    }
-    fn tell(&mut self, what: &str) {
-        let said: Vec<String> = self
-            .answers
+        let said: Vec<String> = answers
             .iter()
             .map(|(answer, n)| format!("{n} {answer}"))
             .collect();
         println!("{what}: {}", said.join(", "));
-        self.answers.clear();
     }
 }
 
 fn main() {
-    let seed = std::env::args()
-        .nth(1)
+    let mut arguments = std::env::args().skip(1);
+    let program = arguments.next().expect("compare PROGRAM [SEED]");
+    let seed = arguments
+        .next()
         .map_or(1, |s| s.parse().expect("SEED is a number"));
     let mut random = Random(seed);
-    let mut tally = Tally::default();
+    let mut tally = Tally {
+        program,
+        queries: vec![],
+        passed: 0,
+        failed: 0,
+    };
 
     for bytes in 0..=300 {
         let whole = admitted(&mut random, 38);

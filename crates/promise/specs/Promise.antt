@@ -42,7 +42,6 @@ use Rattle.plan.specs.Planned.Laws.{planOf-admitted}
 use Rattle.engine.specs.Quick as Quick
 use Rattle.engine.specs.Quick.Of.{quickState}
 use Rattle.engine.specs.Quick.Reads.{quick-begun, quick-held}
-use Rattle.records.specs.Write.{recordsOf}
 use Rattle.records.specs.Write.Laws.{Nodes, nodesIn-recordsOf}
 use Rattle.session.specs.declared.Session.{Session}
 use Rattle.session.specs.declared.Begun as given
@@ -53,7 +52,7 @@ use Rattle.session.specs.declared.Finish.the-variants as finish-cases
 use Rattle.session.specs.Begin.{fresh, Begun, sessionFor, begun, BeginGives}
 use Rattle.session.specs.Event.{Done, event, EventGives, finish, FinishGives}
 use Rattle.session.specs.Told.{told, ended}
-use Rattle.columns.specs.Hand.{buffer}
+use Rattle.columns.specs.Hand.{buffer, buffer-none}
 use Rattle.columns.specs.Sessions.{sessionOf}
 use Rattle.columns.specs.Right.{theSession, Within, owed, event-right, owedFinish, finish-right}
 
@@ -82,10 +81,6 @@ within-limits q ok small es w =
       few = w .held-nodes;
       listing = omega (arith, counts-add-up q (document es), w .nodes);
     }
-
-pub buffer-none : (out : List ℕ) → buffer [] out ≡ out
-unfolding buffer recordsOf
-buffer-none out = refl
 
 -- nodes that stand in the buffer are told
 told-buffer : (ns out : List ℕ) → Nodes ns → told (Taken (length ns)) (buffer ns out) ≡ meaning.taken ns

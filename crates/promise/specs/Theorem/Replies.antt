@@ -49,8 +49,8 @@ use Rattle.session.specs.Event as events
 use Rattle.session.specs.Event.{EventGives}
 use Rattle.session.specs.Event.Laws.{event-one, finish-one}
 use Rattle.session.specs.Told.{told, ended}
-use Rattle.columns.specs.Hand.{buffer}
-use Rattle.promise.specs.Promise.{sessionAfter, Of, Given, buffer-none, begin-answer, begin-of, ruled, event-given, event-of, finish-given}
+use Rattle.columns.specs.Hand.{buffer, buffer-none}
+use Rattle.promise.specs.Promise.{sessionAfter, Of, Given, begin-answer, begin-of, ruled, event-given, event-of, finish-given}
 use Rattle.promise.specs.Promise.{waiting-held, opened-is, handed-is, count-is}
 use Rattle.promise.specs.Theorem.{Use, offer, ask, Reply, stepped, finish, Played, unused, by-event, by-finish, Reached}
 use Rattle.promise.specs.Theorem.{callOf, answerOf, recordsBy, recordsIn, streamOf, nodesOf, Begins, Promised}
