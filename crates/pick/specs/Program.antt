@@ -28,7 +28,7 @@ use Rattle.query.specs.Answer.{Answer, admitted, refused, refusedAt, answerTo}
 use Rattle.query.specs.Decode.{decode}
 use Rattle.lines.specs.Text.{linesOf, endLine, refusedAtLine, refusedLine}
 use Rattle.system.specs.declared.File.{File}
-use Rattle.system.specs.Marks.{Opened, Given, Handed, Received, Delivered}
+use Rattle.system.specs.Marks.{Opened, Handed, Received, Delivered}
 
 -- "`end N` with the number handed out"; "for refusal 8 the number of accepted events"
 unfoldable pub finishLineOf : Query → List Event → List ℕ

@@ -205,7 +205,13 @@ fn goes_on(refusal: u8, ended: bool, written: bool) -> bool
 
 // A file need not end, but the loop does: a turn that reads gets a byte or is the last, a turn that works takes an event or is the last, and no
 // more than 33,554,430 events are ever taken.
-fn work_all(file: File, session: Session, input: &mut [u8], out: &mut [u8], text: &mut [u8]) -> State
+fn work_all(
+    file: File,
+    session: Session,
+    input: &mut [u8],
+    out: &mut [u8],
+    text: &mut [u8],
+) -> State
     requires { ⌜ (length (now input) ≤ 65536) × (11 * length (now out) ≤ 4 * length (now text)) ⌝ }
     requires { ⌜ (516 ≤ length (now out)) × Begun session ⌝ }
     ensures { λ r. ⌜ WorkedAll file session r ⌝ }

@@ -32,7 +32,8 @@ answer-events-requires c κs =
     let query = start .args .query .now in
     let checked = begin-answer query (begin .result) (begin .ensures) in
     let so = silent-admitted query (begin .result .answer) checked _ _ _ (line .0) (c .before .before .if1 .left) in
-    (search needs, record { query = query; begun = begin-of query (begin .result) (λ i. c .before .before .before .before .before .before .before .before .before .shared-slice-known .given i .fits) (begin .ensures) so })
+    let bytes = c .before .before .before .before .before .before .before .before .before .shared-slice-known .given in
+    (search needs, record { query = query; begun = begin-of query (begin .result) (λ i. bytes i .fits) (begin .ensures) so })
 
 same-length-2 : tie.Need-same-length-2
 same-length-2 c = search needs
@@ -46,7 +47,8 @@ returns-2 c =
     let checked = begin-answer query (begin .result) (begin .ensures) in
     let few = c .before .before .before .before .before .if1 .left in
     let so = silent-admitted query (begin .result .answer) checked _ _ _ (line .0) few in
-    let of = begin-of query (begin .result) (λ i. c .before .before .before .before .before .before .before .before .before .before .before .before .shared-slice-known .given i .fits) (begin .ensures) so in
+    let bytes = c .before .before .before .before .before .before .before .before .before .before .before .before .shared-slice-known .given in
+    let of = begin-of query (begin .result) (λ i. bytes i .fits) (begin .ensures) so in
     let events = c .before .before .answer-events .ensures in
     (answered-by (λ l. admitted-lined query (begin .result .answer) checked _ _ _ (line .0) few _ _ (l query of)) (events .0), events .1)
 

@@ -37,12 +37,12 @@ same-length c = search needs
 
 returns : tie.Need-returns
 returns c =
-    let work = c .before .before .before .before .before .before .before .before .before .before .before .before .work-all in
+    let opened = c .before .before .before .before .before .before .before .before .before .before .before .before .before .before .before .before .open .ensures in
+    let work = c .before .before .before .before .before .before .before .before .before .before .before .before .work-all .ensures in
+    let written = c .before .before .before .before .before .before .if1 .taken in
+    let finished = c .before .before .before .before .finish .ensures in
     let line = c .before .before .last-line .ensures in
-    (inl
-    (λ b o.
-    streamed-lined (c .before .before .before .before .before .before .before .before .before .before .before .before .before .before .before .before .open .ensures) (work .ensures .streamed (c .before .before .before .before .before .before .if1 .taken) b o) _ (c .before .before .before .before .finish .ensures)
-    _ _ (put-taken (line .0) (search needs))), line .1)
+    (inl (λ b o. streamed-lined opened (work .streamed written b o) _ finished _ _ (put-taken (line .0) (search needs))), line .1)
 
 same-length-2 : tie.Need-same-length-2
 same-length-2 c = search needs

@@ -39,8 +39,10 @@ write-text-requires c κs = search needs
 
 returns : tie.Need-returns
 returns c =
+    let opened = c .before .before .before .before .before .before .before .before .before .before .open .ensures in
     let read = c .before .before .before .before .before .before .before .before .read-full .ensures in
-    outcome-written _ _ _ _ (c .before .before .before .before .before .before .before .before .before .before .open .ensures) (read .0) _ (c .write-text .ensures) (c .before .before .before .answer .ensures .0)
+    let answered = c .before .before .before .answer .ensures in
+    outcome-written _ _ _ _ opened (read .0) _ (c .write-text .ensures) (answered .0)
 
 pub answer-files-spec : {M : Type 1} → statement M
 answer-files-spec =

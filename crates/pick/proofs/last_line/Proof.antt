@@ -15,7 +15,9 @@ same-length : tie.Need-same-length
 same-length c = search needs
 
 returns : tie.Need-returns
-returns c = refused-line-is (c .before .before .before .before .before .before .args .finish) (c .before .before .before .before .before .before .args .taken) (c .before .before .before .before .before .before .args .refusal) (omega arith) (c .before .before .put-refused-at .ensures)
+returns c =
+    let a = c .before .before .before .before .before .before .args in
+    refused-line-is (a .finish) (a .taken) (a .refusal) (omega arith) (c .before .before .put-refused-at .ensures)
 
 enum-known-finish : tie.Need-enum-known-finish
 enum-known-finish c = search needs
@@ -36,13 +38,19 @@ same-length-2 : tie.Need-same-length-2
 same-length-2 c = search needs
 
 returns-2 : tie.Need-returns-2
-returns-2 c = finish-line-is (c .before .before .before .before .before .before .before .before .before .args .taken) (c .before .before .before .before .before .before .before .before .before .args .refusal) (c .before .before .before .before .before .finish .given .1) (omega arith) (c .before .before .put-refused-at2 .ensures)
+returns-2 c =
+    let a = c .before .before .before .before .before .before .before .before .before .args in
+    let answered = c .before .before .before .before .before .finish .given .1 in
+    finish-line-is (a .taken) (a .refusal) answered (omega arith) (c .before .before .put-refused-at2 .ensures)
 
 same-length-3 : tie.Need-same-length-3
 same-length-3 c = search needs
 
 returns-3 : tie.Need-returns-3
-returns-3 c = finish-line-is (c .before .before .before .before .before .before .before .before .before .args .taken) (c .before .before .before .before .before .before .before .before .before .args .refusal) (c .before .before .before .before .before .finish2 .given .1) (omega arith) (c .before .before .put-end .ensures)
+returns-3 c =
+    let a = c .before .before .before .before .before .before .before .before .before .args in
+    let answered = c .before .before .before .before .before .finish2 .given .1 in
+    finish-line-is (a .taken) (a .refusal) answered (omega arith) (c .before .before .put-end .ensures)
 
 pub last-line-spec : {M : Type 1} → statement M
 last-line-spec =

@@ -1,6 +1,6 @@
 -- `pick::work_all` meets its contract and ends. The invariant: what the turns have come to so far, for the query that the session was begun with.
 -- Assumes nothing.
-use Prim.Native.Nat.{ℕ, _≤_}
+use Prim.Native.Nat.{ℕ}
 use native.Mathlib.Omega.{arith}
 use mathlib.Core.Path.{_≡_, refl, sym, _∙_}
 use mathlib.Core.List.{List, []}
@@ -41,17 +41,22 @@ loop-less c =
     let start = c .before .before .before .before .before .before .before .before .before .before .before .before .before .before .before .before in
     let l = c .before .before .before .before .before .before .before .before .before .before .before .before .loop in
     let u = l .inv .1 .1 (start .pre .1 .1 .query) (start .pre .1 .1 .begun) in
-    turn-less (l .state) (l .input) u (sym (c .before .before .before .before .before .before .before .before .before .before .before .goes-on .ensures) ∙ c .before .before .before .before .before .before .before .before .before .before .if1 .taken) (l .inv .1 .0)
+    let tested = c .before .before .before .before .before .before .before .before .before .before .before .goes-on .ensures in
+    let more = c .before .before .before .before .before .before .before .before .before .before .if1 .taken in
+    turn-less (l .state) (l .input) u (sym tested ∙ more) (l .inv .1 .0)
     (length (start .args .input .now)) (l .out) _ _ (omega arith) (omega arith) (omega arith) (c .before .before .before .before .before .before .turn .ensures)
 
 loop-again : tie.Need-loop-again Inv-loop μ-loop
 loop-again c =
     let l = c .before .before .before .before .before .before .before .before .before .before .before .before .loop in
-    let more = sym (c .before .before .before .before .before .before .before .before .before .before .before .goes-on .ensures) ∙ c .before .before .before .before .before .before .before .before .before .before .if1 .taken in
+    let tested = c .before .before .before .before .before .before .before .before .before .before .before .goes-on .ensures in
+    let more = sym tested ∙ c .before .before .before .before .before .before .before .before .before .before .if1 .taken in
     let turned = c .before .before .before .before .before .before .turn .ensures in (
       (omega arith, (omega arith, omega arith)),
-      (turn-within (l .state) (l .input) (l .out) _ _ turned,
-      λ b o. turn-underway (l .state) (l .input) (l .inv .1 .1 b o) more (l .inv .1 .0) (l .out) _ _ turned),
+      (
+        turn-within (l .state) (l .input) (l .out) _ _ turned,
+        λ b o. turn-underway (l .state) (l .input) (l .inv .1 .1 b o) more (l .inv .1 .0) (l .out) _ _ turned,
+      ),
     )
 
 same-length : tie.Need-same-length Inv-loop μ-loop

@@ -1,7 +1,6 @@
 -- The last line by the cases of the code, and bytes that move down in a text.
 --
 --   query-line-is, finish-line-is, refused-line-is      what is put is the line that the answers ask for
---   part-short     a part from a to e has at most e - a bytes
 --   getD-past      a run of stores leaves what lies behind it
 --   put-moved      one byte more is moved down
 --
@@ -10,8 +9,8 @@ use Prim.Native.Nat.{ℕ, suc, _+_, _-_, _≤_, _<_}
 use native.Mathlib.Omega.{arith}
 use mathlib.Core.Path.{_≡_, refl, sym, ap, _∙_}
 use mathlib.Core.List.{List, [], _∷_}
-use lib.ListN.{length, getD, take, drop, set, length-take}
-use lib.Seq.{sets, getD-set-other, getD-drop, length-take-le}
+use lib.ListN.{length, getD, take, drop, set}
+use lib.Seq.{sets, getD-set-other, getD-drop}
 use borrow.Author.Tests.{lt-ltb, le-ltb}
 use Rattle.io.specs.Counts.{Counts}
 use Rattle.lines.specs.Put.{Put}
@@ -32,9 +31,6 @@ module _ {l l′ : List ℕ} {n : ℕ} where
   pub refused-line-is :
       (f : Finish) (taken r : ℕ) → 0 < r → Put l 0 (refusedAtLine r (taken + 1)) l′ n × Counts n l′ → Put l 0 (lastLine f taken r) l′ n × Counts n l′
   refused-line-is f taken r h p = rw (lt-ltb 0 r h) p
-
-pub part-short : (l : List ℕ) (a e : ℕ) → length (take (e - a) (drop a l)) ≤ e - a
-part-short l a e = rw (length-take (e - a) (drop a l)) (omega arith)
 
 pub getD-past : (l : List ℕ) (at : ℕ) (vs : List ℕ) (j : ℕ) → at + length vs ≤ j → getD (sets l at vs) j 0 ≡ getD l j 0
 getD-past l at [] j h = refl

@@ -12,9 +12,9 @@ use native.Mathlib.Omega.{arith}
 use mathlib.Core.Logic.{_⊎_, inl, inr}
 use mathlib.Core.Path.{_≡_, refl, sym, ap, _∙_, subst}
 use mathlib.Core.Bool.{Bool, true, false, not, cond}
-use mathlib.Core.List.{List, [], _∷_, _++_}
-use mathlib.Core.Option.{Option, none, some}
-use lib.ListN.{length, take, length-append}
+use mathlib.Core.List.{List, [], _++_}
+use mathlib.Core.Option.{Option}
+use lib.ListN.{length, take}
 use borrow.Author.Tests.{lt-ltb}
 use Rattle.choice.specs.Pick.{pick}
 use Rattle.meaning.specs.Query.{Query}
@@ -40,7 +40,7 @@ use Rattle.system.specs.Marks.{Opened, Given, Handed, received, nothing-yet, De
 use Rattle.pick.specs.declared.State.{State}
 use Rattle.pick.specs.Line.{queryLine, finishLine, lastLine}
 use Rattle.pick.specs.State.{refusalOf, Streamed, EventsLined}
-use Rattle.pick.specs.Program.{finishLineOf, lastLineBy, lastLineOf, owedBy, owed, Failed, queryName, eventsName, Lined, Answered, Completed, Outcome}
+use Rattle.pick.specs.Program.{finishLineOf, lastLineBy, owedBy, queryName, eventsName, Lined, Answered, Outcome}
 
 -- the last line
 
@@ -69,8 +69,8 @@ last-line-owed o f e taken (suc r) t =
 
 -- the last line for a stream that was worked on whole
 pub streamed-lined :
-    {b : List ℕ} {file : File} {s : State} → Opened eventsName file → (st : Streamed b file s) → (f : Finish) → f ≡ finish (s .session) → (text : List ℕ) (r : ℕ) →
-    take r text ≡ lastLine f (s .taken) (s .refusal) → EventsLined b text r
+    {b : List ℕ} {file : File} {s : State} → Opened eventsName file → Streamed b file s → (f : Finish) → f ≡ finish (s .session) →
+    (text : List ℕ) (r : ℕ) → take r text ≡ lastLine f (s .taken) (s .refusal) → EventsLined b text r
 streamed-lined {b} {file} {s} op st f e text r line =
     record {
       bytes = st .bytes;

@@ -6,15 +6,14 @@
 -- Assumes nothing.
 use Prim.Native.Nat.{ℕ, zero, suc, _+_, _*_, _≤_, _<_}
 use native.Mathlib.Omega.{arith}
-use mathlib.Core.Path.{_≡_, refl, sym, ap, ap₂, _∙_, subst}
-use mathlib.Core.Bool.{Bool, true, false}
-use mathlib.Core.List.{List, [], _∷_, _++_, append-nil}
+use mathlib.Core.Path.{_≡_, refl, sym, ap, _∙_, subst}
+use mathlib.Core.Bool.{Bool}
+use mathlib.Core.List.{List, _++_, append-nil}
 use mathlib.Core.Option.{Option, none, some}
 use lib.Dec.{ltb}
 use lib.ListN.{length, getD, take, drop, length-drop}
 use lib.Seq.{take-at, getD-drop}
 use borrow.Author.Tests.{ltb-true, ltb-false, le-ltb}
-use Rattle.choice.specs.Pick.{pick}
 use Rattle.meaning.specs.Limits.{roomNeeded}
 use Rattle.meaning.specs.Query.{Query}
 use Rattle.meaning.specs.Document.{Doc, count}
@@ -49,7 +48,9 @@ pub record BlockProgress (b : List ℕ) (es : List Stream.Event) (bs : List ℕ)
   pub some : 0 < n → 516 ≤ length out → f .refusal ≡ 0 → 0 < f .taken
 
 -- room beyond what is needed changes no answer
-room-enough : (q : Query) (d : Doc) (bytes : List ℕ) (room : ℕ) → 516 ≤ room → lowest (refusals q d (Call.event bytes room)) ≡ lowest (refusals q d (Call.event bytes roomNeeded))
+room-enough :
+    (q : Query) (d : Doc) (bytes : List ℕ) (room : ℕ) → 516 ≤ room →
+    lowest (refusals q d (Call.event bytes room)) ≡ lowest (refusals q d (Call.event bytes roomNeeded))
 unfolding refusals eventRefusals lowest
 room-enough q d bytes room h = ap (λ (b : Bool). lowestOr b 1 (lowest (others q d (eventOf bytes)))) (le-ltb room 516 h)
   where
@@ -72,7 +73,9 @@ nodes-both ns out more k h =
     ap (λ (l : List ℕ). nodesIn (length ns + k) (l ++ more)) (take-at (recordsOf ns) _ (4 * length ns) (length-records ns))
     ∙ nodesIn-append ns more k h
 
-none-progress : {b : List ℕ} {es : List Stream.Event} {s : Session} (bs out : List ℕ) (n : ℕ) → (0 < n → 516 ≤ length out → ⊥) → Of b es s → BlockProgress b es bs n out (none-fed s out)
+none-progress :
+    {b : List ℕ} {es : List Stream.Event} {s : Session} (bs out : List ℕ) (n : ℕ) → (0 < n → 516 ≤ length out → ⊥) → Of b es s →
+    BlockProgress b es bs n out (none-fed s out)
 unfolding nodesIn
 none-progress bs out n idle o = record { offered = progress-none bs o; some = λ p w z. absurd (idle p w) }
 
@@ -127,7 +130,8 @@ module _ {b : List ℕ} {es : List Stream.Event} (bs out : List ℕ) (n : ℕ) (
 -- one event, by the lowest refusal that applies, and what comes next
 
 module _ {b : List ℕ} {es : List Stream.Event} {s : Session} (o : Of b es s) (n : ℕ) (bs out : List ℕ) (long : 8 * suc n ≤ length bs)
-    (room : 516 ≤ length out) (rest : (es′ : List Stream.Event) (s′ : Session) (out′ : List ℕ) → Of b es′ s′ → BlockProgress b es′ (drop 8 bs) n out′ (fed n s′ (drop 8 bs) out′)) where
+    (room : 516 ≤ length out)
+    (rest : (es′ : List Stream.Event) (s′ : Session) (out′ : List ℕ) → Of b es′ s′ → BlockProgress b es′ (drop 8 bs) n out′ (fed n s′ (drop 8 bs) out′)) where
   abbrev news : List ℕ
   news = drop (length (listed (decode b) (document es))) (listed (decode b) (actIf (eventOf (take 8 bs)) (document es)))
 
@@ -160,16 +164,19 @@ module _ {b : List ℕ} {es : List Stream.Event} {s : Session} (o : Of b es s) (
       BlockProgress b es bs (suc n) out (followed (event s (take 8 bs) out) next)
   unfolding owed follow one
   next-progress (some r) l e =
-      let single : Single (one (Refused r) (theSession (decode b) (document es)) out) = subst (λ (d : Done). Single (oneOf d)) e (event-single s (take 8 bs) out) in
+      let single : Single (one (Refused r) (theSession (decode b) (document es)) out) =
+      subst (λ (d : Done). Single (oneOf d)) e (event-single s (take 8 bs) out) in
       subst (λ (d : Done). BlockProgress b es bs (suc n) out (followed d next)) (sym e)
       (refused-progress bs out n long r l (λ z. let w : _≡_ {A = ℕ} 0 1 = single .counted z in omega arith) (theSession (decode b) (document es))
       (subst (Of b es) (o .is ∙ unfold sessionAfter in refl) o))
   next-progress none l e =
       let d : Done = event s (take 8 bs) out in
       let reached : Of b (after (decode b) es (first bs)) (theSession (decode b) (actIf (eventOf (take 8 bs)) (document es))) =
-          subst (λ (fs : List Stream.Event). Of b fs (theSession (decode b) (actIf (eventOf (take 8 bs)) (document es)))) after-so
-          (subst (Of b (after (decode b) es (Call.event (take 8 bs) (length out)))) (ap (λ (d : Done). d .session) e) (event-of o (take 8 bs) out (record { answer = d .answer; session = d .session }) (d .out) refl)) in
-      let few : count (actIf (eventOf (take 8 bs)) (document es)) ≤ 16777215 = subst (λ (d : Doc). count d ≤ 16777215) (document-so l) (reached .bounds .nodes) in
+      subst (λ (fs : List Stream.Event). Of b fs (theSession (decode b) (actIf (eventOf (take 8 bs)) (document es)))) after-so
+      (subst (Of b (after (decode b) es (Call.event (take 8 bs) (length out)))) (ap (λ (d : Done). d .session) e)
+      (event-of o (take 8 bs) out (record { answer = d .answer; session = d .session }) (d .out) refl)) in
+      let few : count (actIf (eventOf (take 8 bs)) (document es)) ≤ 16777215 =
+      subst (λ (d : Doc). count d ≤ 16777215) (document-so l) (reached .bounds .nodes) in
       subst (λ (d : Done). BlockProgress b es bs (suc n) out (followed d next)) (sym e)
       (taken-progress bs out n long l (theSession (decode b) (actIf (eventOf (take 8 bs)) (document es))) reached news (listing-so l)
       (news-small (decode b) (actIf (eventOf (take 8 bs)) (document es)) (length (listed (decode b) (document es))) few) _

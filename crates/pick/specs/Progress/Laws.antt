@@ -14,12 +14,12 @@ use native.Mathlib.Nat.{zero-add}
 use native.Mathlib.Omega.{arith}
 use mathlib.Core.Path.{_≡_, refl, sym, ap, _∙_}
 use mathlib.Core.List.{List, [], _++_, append-nil, append-assoc}
-use mathlib.Core.Option.{Option, none, some}
+use mathlib.Core.Option.{none, some}
 use lib.ListN.{length, drop, length-append, length-drop}
 use lib.Seq.{drop-drop}
 use Rattle.meaning.specs.Stream.{Event, document}
 use Rattle.meaning.specs.Standing.{listed}
-use Rattle.meaning.specs.Offering.{Offering, offering, offeringAll}
+use Rattle.meaning.specs.Offering.{offering, offeringAll}
 use Rattle.meaning.specs.Offering.Laws.{offering-then, offering-stopped, offering-more, offering-short, length-offered, most-events}
 use Rattle.query.specs.Decode.{decode}
 use Rattle.session.specs.declared.Session.{Session}

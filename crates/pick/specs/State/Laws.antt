@@ -5,24 +5,22 @@
 --   part-short                   a part from a to e has at most e - a bytes
 --
 -- What is large is given explicitly. Assumes nothing. NOT here: what the turns come to together (State.Turns).
-use Prim.Native.Nat.{ℕ, zero, suc, _+_, _-_, _*_, _/_, _≤_, _<_}
+use Prim.Native.Nat.{ℕ, zero, suc, _+_, _-_, _*_, _≤_}
 use native.Mathlib.Nat.{sub-zero}
 use native.Mathlib.Omega.{arith}
 use mathlib.Core.Path.{_≡_, refl, sym, ap, ap₂, _∙_, subst}
 use mathlib.Core.Bool.{Bool, true, false}
 use mathlib.Core.List.{List, [], _∷_, _++_}
-use lib.Dec.{eqb}
 use lib.ListN.{length, take, drop, take-append-drop, length-take, length-drop}
 use lib.Seq.{take-append-add, drop-drop, length-take-le, length-sets}
 use borrow.Author.Tests.{eq-eqb, ne-eqb}
-use Rattle.choice.specs.Pick.{pick, pick-yes, pick-no}
-use Rattle.session.specs.declared.Session.{Session}
+use Rattle.choice.specs.Pick.{pick-yes, pick-no}
 use Rattle.blocks.specs.Fed.{Fed}
 use Rattle.lines.specs.Put.{Put}
 use Rattle.lines.specs.PutLaws.{put-taken}
 use Rattle.lines.specs.Text.{linesOf, nodesIn}
 use Rattle.system.specs.declared.File.{File}
-use Rattle.system.specs.Marks.{Given, Handed, ReadAt}
+use Rattle.system.specs.Marks.{Handed, ReadAt}
 use Rattle.pick.specs.declared.State.{State}
 use Rattle.pick.specs.State.{unread, Within, leftoverOf, ReadMore, blockOf, Worked}
 
@@ -83,7 +81,8 @@ module _ (file : File) (s : State) (input moved-down input′ : List ℕ) (r : �
 
   pub read-some :
       (r ≡ 0 → ⊥) →
-      ReadMore file s input (record { session = s .session; from = 0; end = left + r; taken = s .taken; refusal = 0; ended = false; written = s .written }) input′
+      ReadMore file s input
+      (record { session = s .session; from = 0; end = left + r; taken = s .taken; refusal = 0; ended = false; written = s .written }) input′
   read-some z =
       record {
         bytes = bytes;

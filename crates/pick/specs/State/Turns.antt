@@ -13,13 +13,13 @@ use native.Mathlib.Omega.{arith}
 use mathlib.Core.Path.{_≡_, refl, sym, ap, ap₂, _∙_, subst}
 use mathlib.Core.Bool.{Bool, true, false, not}
 use mathlib.Core.List.{List, [], _++_}
-use mathlib.Core.Option.{Option, none, some}
+use mathlib.Core.Option.{none, some}
 use mir.Val.{boolByte}
 use lib.Dec.{eqb}
-use lib.ListN.{length, take, drop, length-append, length-drop}
+use lib.ListN.{length, drop, length-append, length-drop}
 use lib.Seq.{drop-drop, drop-append-le, length-take-le}
-use borrow.Author.Tests.{eqb-true, eqb-false, eq-eqb, ne-eqb}
-use Rattle.choice.specs.Pick.{pick, pick-true, pick-false}
+use borrow.Author.Tests.{eqb-true, eqb-false}
+use Rattle.choice.specs.Pick.{pick, pick-true}
 use Rattle.choice.specs.Count.{boolByte-le}
 use Rattle.meaning.specs.Query.{Query}
 use Rattle.meaning.specs.Stream.{Event, run, document}
@@ -39,7 +39,6 @@ use Rattle.pick.specs.declared.State.{State}
 use Rattle.pick.specs.Progress.{Progress}
 use Rattle.pick.specs.Progress.Laws.{progress-none, progress-then, progress-more, progress-short, progress-all, progress-stopped, progress-count, progress-few}
 use Rattle.pick.specs.Progress.Block.{BlockProgress, fed-progress}
-use Rattle.pick.specs.Program.{Failed}
 use Rattle.pick.specs.State.{unread, Within, leftoverOf, refusalOf, goesOn, ReadMore, blockOf, Worked, Turned, worked, read, Underway, Streamed}
 
 never : {A : Type 0} → _≡_ {A = Bool} false true → A
@@ -139,7 +138,9 @@ module _ {b : List ℕ} {file : File} (s : State) (input : List ℕ) (u : Underw
     ended-none : s′ .ended ≡ true → length (m .bytes) ≡ 0
     ended-none e = eqb-true _ _ (sym (m .ended-so) ∙ e)
 
-    read-progress : (e : Bool) → s′ .ended ≡ e → Progress b [] (u .bytes ++ m .bytes) (s .session) (s .taken) (pick e (leftoverOf (s .end - s .from)) 0) (u .nodes)
+    read-progress :
+        (e : Bool) → s′ .ended ≡ e →
+        Progress b [] (u .bytes ++ m .bytes) (s .session) (s .taken) (pick e (leftoverOf (s .end - s .from)) 0) (u .nodes)
     read-progress true e = progress-at-end (progress-more so-far (m .bytes)) few (omega (arith, read-all, ended-none e)) true
     read-progress false e = unfold pick in progress-more so-far (m .bytes)
 
@@ -158,7 +159,7 @@ module _ {b : List ℕ} {file : File} (s : State) (input : List ℕ) (u : Underw
           over =
               λ e z.
               let none-left : s .end - s .from ≡ 0 =
-                  leftover-none (s .end - s .from) (sym (m .refused-so ∙ pick-true (s′ .ended) (leftoverOf (s .end - s .from)) 0 e) ∙ z) in
+              leftover-none (s .end - s .from) (sym (m .refused-so ∙ pick-true (s′ .ended) (leftoverOf (s .end - s .from)) 0 e) ∙ z) in
               omega (arith, read-all, ended-none e, m .taken-same);
           delivered = λ e. u .delivered (sym (m .written-same) ∙ e);
           failed = λ e. u .failed (sym (m .written-same) ∙ e);
@@ -213,7 +214,9 @@ module _ {b : List ℕ} {file : File} (s : State) (input : List ℕ) (u : Underw
   flags : boolByte (eqb (s .refusal) 0) + boolByte (not (s .ended)) ≡ 2
   flags = ap₂ (λ (x : ℕ) (y : Bool). boolByte (eqb x 0) + boolByte (not y)) (g .unrefused) (g .not-ended)
 
-  read-less : (L : ℕ) (s′ : State) (input′ : List ℕ) → L ≡ length input′ → s .end - s .from < 8 → ReadMore file s input s′ input′ → measure L s′ input′ < measure L s input
+  read-less :
+      (L : ℕ) (s′ : State) (input′ : List ℕ) → L ≡ length input′ → s .end - s .from < 8 → ReadMore file s input s′ input′ →
+      measure L s′ input′ < measure L s input
   read-less L s′ input′ long few m = by (s′ .ended) refl
     where
       more : length (unread s′ input′) ≡ length (unread s input) + length (m .bytes)
@@ -244,15 +247,17 @@ module _ {b : List ℕ} {file : File} (s : State) (input : List ℕ) (u : Underw
       few : s .taken + blockOf s input out .taken ≤ 33554430
       few = omega (arith, progress-few (work-underway out s′ x .offered), x .taken-so)
 
+      room-for : (8 * blockOf s input out .taken ≤ length (unread s input)) × (length (unread s input) ≤ L)
+      room-for = (told out s′ x .offered .within, omega (arith, long, unread-length s input w, w .inside))
+
       by : (e : Bool) → eqb (s′ .refusal) 0 ≡ e → measure L s′ input < measure L s input
       by true e =
-          let some : 0 < blockOf s input out .taken = told out s′ x .some (omega (arith, unread-length s input w)) room (sym (x .refusal-so) ∙ eqb-true _ _ e) in
-          omega
-          (arith, flags, some, left, few, long, told out s′ x .offered .within, unread-length s input w, w .inside, x .taken-so, boolByte-le (eqb (s′ .refusal) 0), boolByte-le (not (s′ .ended)))
+          let some : 0 < blockOf s input out .taken =
+          told out s′ x .some (omega (arith, unread-length s input w)) room (sym (x .refusal-so) ∙ eqb-true _ _ e) in
+          omega (arith, flags, some, left, few, room-for .0, room-for .1, x .taken-so, boolByte-le (eqb (s′ .refusal) 0), boolByte-le (not (s′ .ended)))
       by false e =
           let stopped : boolByte (eqb (s′ .refusal) 0) ≡ 0 = ap boolByte e in
-          omega
-          (arith, flags, stopped, left, few, long, told out s′ x .offered .within, unread-length s input w, w .inside, x .taken-so, boolByte-le (not (s′ .ended)))
+          omega (arith, flags, stopped, left, few, room-for .0, room-for .1, x .taken-so, boolByte-le (not (s′ .ended)))
 
   pub turn-less :
       (L : ℕ) (out : List ℕ) (s′ : State) (input′ : List ℕ) → L ≡ length input → L ≡ length input′ → 516 ≤ length out → Turned file s input out s′ input′ →

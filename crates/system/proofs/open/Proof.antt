@@ -1,3 +1,4 @@
+-- `system::open` meets its contract. Assumes nothing.
 use borrow.Author.Needs.{needs}
 use Rattle.system.specs.Marks.Seal.{opened}
 use Rattle.system.proofs.open.Statement.{statement}

@@ -1,3 +1,4 @@
+-- `system::read_at` meets its contract. Assumes nothing.
 use borrow.Author.Needs.{needs}
 use Rattle.system.specs.Marks.Laws.{read-part}
 use Rattle.system.specs.Marks.Seal.{given}
@@ -34,7 +35,8 @@ same-length c = search needs
 returns : tie.Need-returns
 returns c =
     let a = c .before .before .before .before .before .before .before .before .before .args in
-    read-part (a .file) (a .at) (a .input .now) (c .before .before .before .before .before .read .last .1 .0) _ (search needs) (search needs) (c .count .ensures .0 .0) (given _ _)
+    let put = c .before .before .before .before .before .read .last .1 .0 in
+    read-part (a .file) (a .at) (a .input .now) put _ (search needs) (search needs) (c .count .ensures .0 .0) (given _ _)
 
 pub read-at-spec : {M : Type 1} → statement M
 read-at-spec =

@@ -1,3 +1,4 @@
+-- `system::read_full` meets its contract. Assumes nothing.
 use borrow.Author.Needs.{needs}
 use Rattle.system.specs.Marks.Seal.{given}
 use Rattle.system.proofs.read_full.Statement.{statement}

@@ -1,3 +1,4 @@
+-- `system::write` meets its contract. Assumes nothing.
 use borrow.Author.Needs.{needs}
 use Rattle.system.specs.Marks.Seal.{handed}
 use Rattle.system.proofs.write.Statement.{statement}
