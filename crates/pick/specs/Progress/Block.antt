@@ -2,9 +2,11 @@
 --
 --   BlockProgress b es bs n out f     f is what the first n records of bs, offered one after the other with the buffer out, must come to
 --   fed-progress                 what a block of events comes to (crate blocks, Fed) on a session that calls reach
+--   then-fed                 TWO BLOCKS ONE AFTER THE OTHER ARE ONE STREAM: what was offered so far, and then a block of what is left
+--   fed-fed                  a block, and then a block of what it left, each with a buffer of its own
 --
 -- Assumes nothing.
-use Prim.Native.Nat.{ℕ, zero, suc, _+_, _*_, _≤_, _<_}
+use Prim.Native.Nat.{ℕ, zero, suc, _+_, _*_, _/_, _≤_, _<_}
 use native.Mathlib.Omega.{arith}
 use mathlib.Core.Path.{_≡_, refl, sym, ap, _∙_, subst}
 use mathlib.Core.Bool.{Bool}
@@ -194,3 +196,34 @@ fed-progress {b} {es} {s} (suc n) bs out o h =
     (λ es′ s′ out′ o′. fed-progress n (drop 8 bs) out′ o′ (omega (arith, length-drop 8 bs)))
     (lowest (refusals (decode b) (document es) (first bs))) refl
     (owed-so o n bs out h (ltb-false (length out) 516 t) (λ es′ s′ out′ o′. fed-progress n (drop 8 bs) out′ o′ (omega (arith, length-drop 8 bs)))))
+
+-- TWO BLOCKS ONE AFTER THE OTHER ARE ONE STREAM
+
+-- the block of the whole records of some bytes
+abbrev pub blockFed : Session → List ℕ → List ℕ → Fed
+blockFed s bs out = fed (length bs / 8) s bs out
+
+pub then-fed :
+    {b : List ℕ} {es : List Stream.Event} {bs : List ℕ} {s : Session} {t : ℕ} {ns : List ℕ} → Progress b es bs s t 0 ns → (rest out : List ℕ) →
+    rest ≡ drop (8 * t) bs →
+    Progress b es bs (blockFed s rest out .session) (t + blockFed s rest out .taken) (blockFed s rest out .refusal)
+    (ns ++ nodesIn (blockFed s rest out .listed) (blockFed s rest out .out))
+then-fed {b} {s = s} o rest out e =
+    let f : Fed = blockFed s rest out in
+    progress-then o
+    (subst (λ (x : List ℕ). Progress b (o .events) x (f .session) (f .taken) (f .refusal) (nodesIn (f .listed) (f .out))) e
+    (fed-progress (length rest / 8) rest out (o .reached) (omega arith) .offered))
+
+pub fed-fed :
+    {b : List ℕ} {es : List Stream.Event} {s : Session} (bs out out′ : List ℕ) → Of b es s → (f : Fed) → f ≡ blockFed s bs out → f .refusal ≡ 0 →
+    (g : Fed) → g ≡ blockFed (f .session) (drop (8 * f .taken) bs) out′ →
+    Progress b es bs (g .session) (f .taken + g .taken) (g .refusal) (nodesIn (f .listed) (f .out) ++ nodesIn (g .listed) (g .out))
+fed-fed {b} {es} {s} bs out out′ o f ef z g eg =
+    let first-block : Progress b es bs (f .session) (f .taken) (f .refusal) (nodesIn (f .listed) (f .out)) =
+    subst (λ (x : Fed). Progress b es bs (x .session) (x .taken) (x .refusal) (nodesIn (x .listed) (x .out))) (sym ef)
+    (fed-progress (length bs / 8) bs out o (omega arith) .offered) in
+    let unrefused : Progress b es bs (f .session) (f .taken) 0 (nodesIn (f .listed) (f .out)) =
+    subst (λ (r : ℕ). Progress b es bs (f .session) (f .taken) r (nodesIn (f .listed) (f .out))) z first-block in
+    subst
+    (λ (x : Fed). Progress b es bs (x .session) (f .taken + x .taken) (x .refusal) (nodesIn (f .listed) (f .out) ++ nodesIn (x .listed) (x .out)))
+    (sym eg) (then-fed unrefused (drop (8 * f .taken) bs) out′ refl)

@@ -29,7 +29,6 @@ use Rattle.meaning.specs.Offering.{Offering, offeringAll}
 use Rattle.query.specs.Decode.{decode}
 use Rattle.session.specs.declared.Session.{Session}
 use Rattle.promise.specs.Promise.{Of}
-use Rattle.blocks.specs.Fed.{Fed}
 use Rattle.blocks.specs.Fed.Laws.{pick-known}
 use Rattle.lines.specs.Text.{linesOf, nodesIn}
 use Rattle.lines.specs.TextLaws.{linesOf-append}
@@ -37,8 +36,8 @@ use Rattle.system.specs.declared.File.{File}
 use Rattle.system.specs.Marks.{Handed, received, nothing-yet, Delivered, delivered, none-yet}
 use Rattle.pick.specs.declared.State.{State}
 use Rattle.pick.specs.Progress.{Progress}
-use Rattle.pick.specs.Progress.Laws.{progress-none, progress-then, progress-more, progress-short, progress-all, progress-stopped, progress-count, progress-few}
-use Rattle.pick.specs.Progress.Block.{BlockProgress, fed-progress}
+use Rattle.pick.specs.Progress.Laws.{progress-none, progress-more, progress-short, progress-all, progress-stopped, progress-count, progress-few}
+use Rattle.pick.specs.Progress.Block.{BlockProgress, fed-progress, then-fed}
 use Rattle.pick.specs.State.{unread, Within, leftoverOf, refusalOf, goesOn, ReadMore, blockOf, Worked, Turned, worked, read, Underway, Streamed}
 
 never : {A : Type 0} → _≡_ {A = Bool} false true → A
@@ -168,9 +167,6 @@ module _ {b : List ℕ} {file : File} (s : State) (input : List ℕ) (u : Underw
   -- a block
 
   module _ (out : List ℕ) (s′ : State) (b′ : Worked s input out s′) where
-    f : Fed
-    f = blockOf s input out
-
     told : BlockProgress b (so-far .events) (unread s input) (length (unread s input) / 8) out (blockOf s input out)
     told = fed-progress (length (unread s input) / 8) (unread s input) out (so-far .reached) (omega arith)
 
@@ -187,11 +183,7 @@ module _ {b : List ℕ} {file : File} (s : State) (input : List ℕ) (u : Underw
           nodes = u .nodes ++ more-nodes;
           received = u .received;
           offered =
-              progress-as (b′ .session-so) (b′ .taken-so) (b′ .refusal-so)
-              (progress-then so-far
-              (subst
-              (λ (x : List ℕ). Progress b (so-far .events) x (blockOf s input out .session) k (blockOf s input out .refusal) more-nodes)
-              (u .rest) (told .offered)));
+              progress-as (b′ .session-so) (b′ .taken-so) (b′ .refusal-so) (then-fed so-far (unread s input) out (u .rest));
           rest =
               b′ .left
               ∙ ap (drop (8 * k)) (u .rest)
