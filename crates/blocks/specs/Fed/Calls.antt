@@ -21,7 +21,7 @@ use lib.Dec.{eqb, leb}
 use lib.ListN.{length, take, drop, length-append, length-drop, drop-of-length-le}
 use lib.Seq.{length-take-le, take-all}
 use borrow.Author.Tests.{eqb-true, eqb-false, leb-true, leb-false, eq-eqb, ne-eqb, le-leb, lt-leb}
-use Rattle.choice.specs.Pick.{pick-true, pick-false}
+use Rattle.choice.specs.Pick.{pick-true, pick-false, pick-known}
 use Rattle.choice.specs.Count.{boolByte-le}
 use Rattle.plan.specs.Planned.{sizeOf}
 use Rattle.session.specs.declared.Session.{Session}
@@ -29,7 +29,7 @@ use Rattle.session.specs.Event.{Done, framesIn, queueIn, whole, event}
 use Rattle.blocks.specs.Step.{Stood, step}
 use Rattle.blocks.specs.Step.Laws.{stoodAs, event-single, step-event}
 use Rattle.blocks.specs.Fed.{Fed, none, oneOf, andThen, fed, resumed, Single, Underway, Advanced, goesOn, Goes, stepsOn, Steps, recordAt, restOf, givenBack}
-use Rattle.blocks.specs.Fed.Laws.{pick-known, resumed-none, resumed-one, resumed-part, resumed-turn, resumed-stopped}
+use Rattle.blocks.specs.Fed.Laws.{resumed-none, resumed-one, resumed-part, resumed-turn, resumed-stopped}
 
 never : {A : Type 0} → _≡_ {A = Bool} false true → A
 never h = let z : _≡_ {A = ℕ} 0 1 = ap boolByte h in absurd (omega arith)

@@ -1,6 +1,5 @@
 -- How a block of events goes on.
 --
---   pick-known               what holds of each value where its test answers so holds of the choice
 --   resumed-none             before the first event all is still to do
 --   resumed-andThen          r and then a first part f of what r left: what is left of r is what is left of both
 --   resumed-stopped          where no event is looked at any more nothing is left
@@ -19,17 +18,12 @@ use lib.Dec.{eqb, leb}
 use lib.ListN.{length, take, drop, take-append-drop, length-drop}
 use lib.Seq.{drop-drop, take-append-add, drop-append-add, length-take-le}
 use borrow.Author.Tests.{eqb-true, eq-eqb, ne-eqb, leb-false, lt-ltb, le-ltb}
-use Rattle.choice.specs.Pick.{pick, pick-true, pick-false}
+use Rattle.choice.specs.Pick.{pick, pick-true, pick-false, pick-known}
 use Rattle.session.specs.declared.Session.{Session}
 use Rattle.session.specs.declared.Answer.{Answer}
 use Rattle.session.specs.declared.Answer.the-variants.{Refused, Taken}
 use Rattle.session.specs.Event.{event}
 use Rattle.blocks.specs.Fed.{Fed, none, one, oneOf, andThen, follow, fed, resumed, Single, goesOn}
-
-pub pick-known : {A : Type 0} (P : A → Type 0) (t : Bool) (a b : A) → (t ≡ true → P a) → (t ≡ false → P b) → P (pick t a b)
-unfolding pick
-pick-known P true a b p q = p refl
-pick-known P false a b p q = q refl
 
 -- two that agree in each part are the same
 same :

@@ -16,7 +16,7 @@ use mir.Val.{boolByte}
 use lib.Dec.{eqb}
 use lib.ListN.{length}
 use borrow.Author.Tests.{eqb-true, eqb-false, eq-eqb, ne-eqb, ltb-false, lt-leb, le-ltb}
-use Rattle.choice.specs.Pick.{pick, pick-false, pick-yes, pick-no, pick-either}
+use Rattle.choice.specs.Pick.{pick, pick-false, pick-yes, pick-no, pick-either, pick-known}
 use Rattle.meaning.specs.Record.{eventOf}
 use Rattle.records.specs.declared.Event.{Event}
 use Rattle.records.specs.declared.Event.the-variants.{Open, Close, Bad}
@@ -34,7 +34,6 @@ use Rattle.session.specs.Event.{Done, refused, framesIn, queueIn, whole, settle
 use Rattle.blocks.specs.Step.{Stood, stood, acted, stepOpen, stepClose, stepOn, step}
 use Rattle.blocks.specs.Step.Bounds.{open-gives, close-gives}
 use Rattle.blocks.specs.Fed.{Fed, one, oneOf, Single}
-use Rattle.blocks.specs.Fed.Laws.{pick-known}
 
 -- what the calls give together
 

@@ -16,6 +16,7 @@ use lib.Dec.{ltb}
 use lib.ListN.{length, getD, take, drop, length-drop}
 use lib.Seq.{take-at, getD-drop}
 use borrow.Author.Tests.{ltb-true, ltb-false, le-ltb}
+use Rattle.choice.specs.Pick.{pick-known}
 use Rattle.meaning.specs.Limits.{roomNeeded}
 use Rattle.meaning.specs.Query.{Query}
 use Rattle.meaning.specs.Document.{Doc, count}
@@ -39,7 +40,6 @@ use Rattle.promise.specs.Promise.{Of, sessionAfter, event-owed, event-of}
 use Rattle.records.specs.Write.{recordsOf, nodesIn}
 use Rattle.records.specs.Write.Laws.{length-records, Nodes, nodesIn-append}
 use Rattle.blocks.specs.Fed.{Fed, none as none-fed, one, oneOf, andThen, follow, followed, fed, Single}
-use Rattle.blocks.specs.Fed.Laws.{pick-known}
 use Rattle.blocks.specs.Step.Laws.{event-single}
 use Rattle.pick.specs.Progress.{Progress}
 use Rattle.pick.specs.Progress.Laws.{progress-none, progress-then}

@@ -19,7 +19,7 @@ use lib.Dec.{eqb}
 use lib.ListN.{length, drop, length-append, length-drop}
 use lib.Seq.{drop-drop, drop-append-le, length-take-le}
 use borrow.Author.Tests.{eqb-true, eqb-false}
-use Rattle.choice.specs.Pick.{pick, pick-true}
+use Rattle.choice.specs.Pick.{pick, pick-true, pick-known}
 use Rattle.choice.specs.Count.{boolByte-le}
 use Rattle.meaning.specs.Query.{Query}
 use Rattle.meaning.specs.Stream.{Event, run, document}
@@ -29,7 +29,6 @@ use Rattle.meaning.specs.Offering.{Offering, offeringAll}
 use Rattle.query.specs.Decode.{decode}
 use Rattle.session.specs.declared.Session.{Session}
 use Rattle.promise.specs.Promise.{Of}
-use Rattle.blocks.specs.Fed.Laws.{pick-known}
 use Rattle.lines.specs.Text.{linesOf, nodesIn}
 use Rattle.lines.specs.TextLaws.{linesOf-append}
 use Rattle.system.specs.declared.File.{File}

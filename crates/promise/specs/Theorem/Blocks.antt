@@ -15,6 +15,7 @@ use lib.Dec.{ltb}
 use lib.ListN.{length, take, drop, length-append, length-drop}
 use lib.Seq.{drop-drop}
 use borrow.Author.Tests.{ltb-true, ltb-false}
+use Rattle.choice.specs.Pick.{pick-known}
 use Rattle.meaning.specs.Stream.{Event}
 use Rattle.meaning.specs.Answer as meaning
 use Rattle.meaning.specs.Answer.{Call, answer, handedBy, handedOut}
@@ -29,7 +30,6 @@ use Rattle.session.specs.Event.{Done, event, EventGives}
 use Rattle.session.specs.Told.{told}
 use Rattle.blocks.specs.declared.Ran.{Ran}
 use Rattle.blocks.specs.Fed.{Fed, none, one, oneOf, andThen, follow, fed, RunGives, Single}
-use Rattle.blocks.specs.Fed.Laws.{pick-known}
 use Rattle.blocks.specs.Step.Laws.{event-single}
 use Rattle.promise.specs.Promise.{Of, event-given, event-of}
 use Rattle.promise.specs.Theorem as theorem

@@ -7,10 +7,10 @@
 -- The session and what an act came to are given explicitly: they are too large to be found. Assumes nothing.
 use Prim.Native.Nat.{ℕ}
 use mathlib.Core.Path.{_≡_, refl, sym, ap, ap₂, _∙_}
-use mathlib.Core.Bool.{Bool, true, false}
+use mathlib.Core.Bool.{true, false}
 use mathlib.Core.List.{List}
 use borrow.Author.Tests.{eq-eqb, ne-eqb}
-use Rattle.choice.specs.Pick.{pick, pick-yes, pick-no}
+use Rattle.choice.specs.Pick.{pick-yes, pick-no}
 use Rattle.plan.specs.Planned.{sizeOf}
 use Rattle.act.specs.Refuse.{refuseOpen, refuseClose}
 use Rattle.act.specs.Act.{Parts, openedOn, closedOn}
