@@ -2,7 +2,7 @@
 --
 --   Offering              the events accepted by then, and the number of the refusal, if there was one
 --   first bs              the call that offers the first record of bs, or what there is of it, with room enough
---   goesOn o es w         where o refuses, the events stay es and that is all; else w
+--   unlessRefused o es w  a refusal o ends it with the events es; else w
 --   offering q n es bs    the first n records of bs, offered after the accepted events es
 --   pieces bs             how many records bs makes, a shorter last one among them
 --   offeringAll q bs      all of bs, from the start of a stream: "Leftover bytes under 8 are a bad record"
@@ -25,13 +25,13 @@ pub record Offering : Type 0 where
 abbrev pub first : List ℕ → Call
 first bs = event (take 8 bs) roomNeeded
 
-unfoldable pub goesOn : Option ℕ → List Event → Offering → Offering
-goesOn (some r) es w = record { events = es; refusal = some r }
-goesOn none es w = w
+unfoldable pub unlessRefused : Option ℕ → List Event → Offering → Offering
+unlessRefused (some r) es w = record { events = es; refusal = some r }
+unlessRefused none es w = w
 
 unfoldable pub offering : Query → ℕ → List Event → List ℕ → Offering
 offering q zero es bs = record { events = es; refusal = none }
-offering q (suc n) es bs = goesOn (lowest (refusals q (document es) (first bs))) es (offering q n (after q es (first bs)) (drop 8 bs))
+offering q (suc n) es bs = unlessRefused (lowest (refusals q (document es) (first bs))) es (offering q n (after q es (first bs)) (drop 8 bs))
 
 abbrev pub pieces : List ℕ → ℕ
 pieces bs = (length bs + 7) / 8

@@ -1,22 +1,25 @@
 -- What holds between two turns of the program, and what each function makes of it.
 --
 --   unread s input             what is read and not taken yet
---   Within s n                 it lies in the first n bytes of the input
---   Begun session              begin has made the session for some query
+--   refusalOf r                the refusal that a number stands for: 0 is none
+--   UnreadWithin s n           what is unread lies in the first n bytes of the input
+--   Started session            begin has made the session for some query
 --   leftoverOf left            the refusal of so many leftover bytes, or 0
---   goesOn refusal ended written      there is more to do
---   ReadMore file s i s′ i′      a read of file: what it gave stands behind what was left over; where it gave nothing, the leftover bytes are a bad record
---   Worked s input out s′      a block of events: the state is what it came to (crate blocks, Fed), the bytes not taken stand where the state says, and the
---                              lines of the nodes that it listed, and no others, were handed to standard output
---   Turned file s i out s′ i′    the one or the other, by whether a whole record is there
---   Underway b file s input      what the turns have come to, for the query bytes b, in the words of the meaning
---   WorkedAll file session s     what all turns come to
---   EventsAnswered session text r    all nodes are written and the last line stands at the start of the text, or standard output took no more
+--   moreToDo refusal ended written      another turn is taken
+--   ReadMore file s i s′ i′    a read: what it gave stands behind what was left over; where it gave nothing, the leftover bytes are a bad record
+--   blockOf s input out        the block of the whole records that are unread (crate blocks, Fed)
+--   Worked s input out s′      a block of events: the state is what it came to, the bytes not taken stand where the state says, and the lines of the nodes
+--                              that it listed were handed to standard output
+--   Turned file s i out s′ i′  the one or the other, by whether a whole record is there
+--   TurnsSoFar b file s input  what the turns have come to, for the query bytes b, in the words of the meaning
+--   Streamed b file s          what all turns come to, for the query bytes b;  WorkedAll file session s: for the query that the session was begun with
+--   EventsLined b text r       every node's line is delivered, and the last line stands in the first r bytes of the text
+--   EventsAnswered session text r       EventsLined for the session's query; or standard output took no more, and no line is put
 --
--- Assumes nothing. NOT here: what is owed (Program), what offering records comes to (Progress).
+-- Assumes nothing. NOT here: what is owed (Program), what offering records comes to (crate meaning, Offering).
 pub mod Laws
 pub mod Turns
-use Prim.Native.Nat.{ℕ, zero, suc, _-_, _+_, _*_, _/_, _≤_, _<_}
+use Prim.Native.Nat.{ℕ, zero, suc, _-_, _+_, _*_, _≤_, _<_}
 use mathlib.Core.Logic.{_⊎_}
 use mathlib.Core.Path.{_≡_}
 use mathlib.Core.Bool.{Bool, true, false}
@@ -31,13 +34,14 @@ use Rattle.meaning.specs.Offering.{offeringAll}
 use Rattle.query.specs.Decode.{decode}
 use Rattle.session.specs.declared.Session.{Session}
 use Rattle.promise.specs.Promise.{Of}
-use Rattle.blocks.specs.Fed.{Fed, fed}
+use Rattle.blocks.specs.Fed.{Fed}
 use Rattle.lines.specs.Text.{linesOf, nodesIn}
 use Rattle.system.specs.declared.File.{File}
-use Rattle.system.specs.Marks.{Given, Handed, Received, Delivered}
+use Rattle.system.specs.Marks.{ReadGave, ReadOver, Handed, Received, Delivered}
 use Rattle.pick.specs.declared.State.{State}
 use Rattle.pick.specs.Progress.{Progress}
-use Rattle.pick.specs.Program.{lastLineOf, Failed, eventsName, Read}
+use Rattle.pick.specs.Progress.Block.{blockFed}
+use Rattle.pick.specs.Program.{lastLineOf, Failed, EventsRead}
 
 abbrev pub unread : State → List ℕ → List ℕ
 unread s input = take (s .end - s .from) (drop (s .from) input)
@@ -47,11 +51,11 @@ unfoldable pub refusalOf : ℕ → Option ℕ
 refusalOf zero = none
 refusalOf (suc r) = some (suc r)
 
-pub record Within (s : State) (n : ℕ) : Type 0 where
+pub record UnreadWithin (s : State) (n : ℕ) : Type 0 where
   pub forward : s .from ≤ s .end
   pub inside : s .end ≤ n
 
-pub record Begun (session : Session) : Type 0 where
+pub record Started (session : Session) : Type 0 where
   pub query : List ℕ
   pub begun : Of query [] session
 
@@ -59,31 +63,32 @@ pub record Begun (session : Session) : Type 0 where
 unfoldable pub leftoverOf : ℕ → ℕ
 leftoverOf left = pick (eqb left 0) 0 2
 
-unfoldable pub goesOn : ℕ → Bool → Bool → Bool
-goesOn refusal ended written = pick (eqb refusal 0) (pick ended false written) false
+unfoldable pub moreToDo : ℕ → Bool → Bool → Bool
+moreToDo refusal ended written = pick (eqb refusal 0) (pick ended false written) false
 
 pub record ReadMore (file : File) (s : State) (input : List ℕ) (s′ : State) (input′ : List ℕ) : Type 0 where
   -- what the read gave
   pub bytes : List ℕ
-  pub given : Given file bytes
+  pub given : ReadGave file bytes
   pub behind : unread s′ input′ ≡ unread s input ++ bytes
-  pub within : Within s′ (length input′)
+  pub within : UnreadWithin s′ (length input′)
   pub session-same : s′ .session ≡ s .session
   pub taken-same : s′ .taken ≡ s .taken
   pub written-same : s′ .written ≡ s .written
   pub ended-so : s′ .ended ≡ eqb (length bytes) 0
   pub refused-so : s′ .refusal ≡ pick (s′ .ended) (leftoverOf (s .end - s .from)) 0
+  pub over : s′ .ended ≡ true → ReadOver file
 
 -- the block that is worked on
 abbrev pub blockOf : State → List ℕ → List ℕ → Fed
-blockOf s input out = fed (length (unread s input) / 8) (s .session) (unread s input) out
+blockOf s input out = blockFed (s .session) (unread s input) out
 
 pub record Worked (s : State) (input out : List ℕ) (s′ : State) : Type 0 where
   pub session-so : s′ .session ≡ blockOf s input out .session
   pub taken-so : s′ .taken ≡ s .taken + blockOf s input out .taken
   pub refusal-so : s′ .refusal ≡ blockOf s input out .refusal
   pub left : unread s′ input ≡ drop (8 * blockOf s input out .taken) (unread s input)
-  pub within : Within s′ (length input)
+  pub within : UnreadWithin s′ (length input)
   pub not-ended : s′ .ended ≡ false
   pub handed : Handed (linesOf (nodesIn (blockOf s input out .listed) (blockOf s input out .out))) (s′ .written)
 
@@ -91,14 +96,18 @@ pub data Turned (file : File) (s : State) (input out : List ℕ) (s′ : State) 
   worked : 8 ≤ s .end - s .from → input′ ≡ input → Worked s input out s′ → Turned file s input out s′ input′
   read : s .end - s .from < 8 → ReadMore file s input s′ input′ → Turned file s input out s′ input′
 
-pub record Underway (b : List ℕ) (file : File) (s : State) (input : List ℕ) : Type 0 where
+pub record TurnsSoFar (b : List ℕ) (file : File) (s : State) (input : List ℕ) : Type 0 where
   -- what the reads have given, end to end, and what is listed for it
   pub bytes : List ℕ
   pub nodes : List ℕ
   pub received : Received file bytes
   pub offered : Progress b [] bytes (s .session) (s .taken) (s .refusal) nodes
   pub rest : unread s input ≡ drop (8 * s .taken) bytes
+  -- a read has given nothing; then nothing is left over or it was refused
+  pub at-end : s .ended ≡ true → ReadOver file
   pub over : s .ended ≡ true → s .refusal ≡ 0 → length bytes ≤ 8 * s .taken
+  -- else only a whole record is refused
+  pub whole : s .ended ≡ false → (s .refusal ≡ 0 → ⊥) → 8 * s .taken + 8 ≤ length bytes
   pub delivered : s .written ≡ true → Delivered (linesOf nodes)
   pub failed : s .written ≡ false → Failed
 
@@ -109,6 +118,7 @@ pub record Streamed (b : List ℕ) (file : File) (s : State) : Type 0 where
   pub reached : Of b (offeringAll (decode b) bytes .events) (s .session)
   pub counted : s .taken ≡ length (offeringAll (decode b) bytes .events)
   pub refusal-so : refusalOf (s .refusal) ≡ offeringAll (decode b) bytes .refusal
+  pub to-end : ReadOver file ⊎ ((more : List ℕ) → offeringAll (decode b) (bytes ++ more) ≡ offeringAll (decode b) bytes)
   pub delivered : Delivered (linesOf (listed (decode b) (document (offeringAll (decode b) bytes .events))))
 
 pub record WorkedAll (file : File) (session : Session) (s : State) : Type 0 where
@@ -119,9 +129,9 @@ pub record WorkedAll (file : File) (session : Session) (s : State) : Type 0 wher
 -- for the query bytes b: every node's line is delivered, and the last line stands at the start of the text
 pub record EventsLined (b text : List ℕ) (r : ℕ) : Type 0 where
   pub bytes : List ℕ
-  pub events-read : Read eventsName bytes
+  pub events-read : EventsRead (decode b) bytes
   pub delivered : Delivered (linesOf (listed (decode b) (document (offeringAll (decode b) bytes .events))))
   pub line : take r text ≡ lastLineOf (decode b) (offeringAll (decode b) bytes)
 
 abbrev pub EventsAnswered : Session → List ℕ → ℕ → Type 0
-EventsAnswered session text r = ((b : List ℕ) → Of b [] session → EventsLined b text r) ⊎ Failed
+EventsAnswered session text r = ((b : List ℕ) → Of b [] session → EventsLined b text r) ⊎ (Failed × (r ≡ 0))

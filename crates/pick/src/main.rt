@@ -3,19 +3,16 @@
 // What comes is worked on block by block: one read, the events that are whole, the lines of what they handed out, and only then the next
 // read. So a pipe is answered as it runs, and no stream needs more room than another.
 ghost use mathlib.Core.Path.{_≡_};
-ghost use mathlib.Core.Bool.{Bool};
-ghost use mathlib.Core.List.{List};
-ghost use Prim.Native.Nat.{ℕ, _+_, _*_, _/_, _≤_, _<_};
+ghost use Prim.Native.Nat.{_+_, _-_, _*_, _≤_, _<_};
 ghost use lib.ListN.{length, take, drop};
 ghost use Rattle.blocks.specs.Fed.{RunGives};
 ghost use Rattle.io.specs.Counts.{Counts};
 ghost use Rattle.lines.specs.Put.{Put};
 ghost use Rattle.lines.specs.Text.{linesOf, nodesIn};
-ghost use Rattle.promise.specs.Promise.{Of};
 ghost use Rattle.system.specs.Marks.{Handed};
-ghost use Rattle.pick.specs.Program.{Outcome, Answered};
+ghost use Rattle.pick.specs.Program.{Outcome, Replied};
 ghost use Rattle.pick.specs.Line.{queryLine, lastLine};
-ghost use Rattle.pick.specs.State.{Within, Begun, leftoverOf, goesOn, ReadMore, Worked, Turned, WorkedAll, EventsAnswered};
+ghost use Rattle.pick.specs.State.{UnreadWithin, Started, leftoverOf, moreToDo, ReadMore, Worked, Turned, WorkedAll, EventsAnswered};
 use blocks::Ran;
 use query::QueryAnswer;
 use session::Finish;
@@ -110,7 +107,7 @@ fn leftover(left: usize) -> u8
 
 // Reads once, behind what is left over.
 fn read_more(file: File, state: State, input: &mut [u8]) -> State
-    requires { ⌜ Within state (length (now input)) ⌝ }
+    requires { ⌜ UnreadWithin state (length (now input)) × (state .end - state .from < length (now input)) ⌝ }
     ensures { λ r. ⌜ ReadMore file state (now (input .entry)) r (now (input .exit)) ⌝ }
 {
     let from = state.from;
@@ -153,7 +150,7 @@ fn write_text(text: &[u8], length: usize) -> bool
 
 // Works on what is read, and writes the lines.
 fn work_block(state: State, input: &[u8], out: &mut [u8], text: &mut [u8]) -> State
-    requires { ⌜ Within state (length (now input)) × (11 * length (now out) ≤ 4 * length (now text)) ⌝ }
+    requires { ⌜ UnreadWithin state (length (now input)) × (11 * length (now out) ≤ 4 * length (now text)) ⌝ }
     requires { ⌜ (length (now input) ≤ 65536) × (state .taken ≤ 33554430) ⌝ }
     ensures { λ r. ⌜ Worked state (now (input .entry)) (now (out .entry)) r ⌝ }
 {
@@ -179,8 +176,8 @@ fn work_block(state: State, input: &[u8], out: &mut [u8], text: &mut [u8]) -> St
 
 // Works on what is read where a whole record is there, else reads once.
 fn turn(file: File, state: State, input: &mut [u8], out: &mut [u8], text: &mut [u8]) -> State
-    requires { ⌜ Within state (length (now input)) × (11 * length (now out) ≤ 4 * length (now text)) ⌝ }
-    requires { ⌜ (length (now input) ≤ 65536) × (state .taken ≤ 33554430) ⌝ }
+    requires { ⌜ UnreadWithin state (length (now input)) × (11 * length (now out) ≤ 4 * length (now text)) ⌝ }
+    requires { ⌜ ((8 ≤ length (now input)) × (length (now input) ≤ 65536)) × (state .taken ≤ 33554430) ⌝ }
     ensures { λ r. ⌜ Turned file state (now (input .entry)) (now (out .entry)) r (now (input .exit)) ⌝ }
 {
     let left = state.end - state.from;
@@ -191,8 +188,8 @@ fn turn(file: File, state: State, input: &mut [u8], out: &mut [u8], text: &mut [
 }
 
 // Whether there is more to do.
-fn goes_on(refusal: u8, ended: bool, written: bool) -> bool
-    ensures { λ r. ⌜ r ≡ goesOn refusal ended written ⌝ }
+fn more_to_do(refusal: u8, ended: bool, written: bool) -> bool
+    ensures { λ r. ⌜ r ≡ moreToDo refusal ended written ⌝ }
 {
     if refusal != 0 {
         return false;
@@ -212,8 +209,8 @@ fn work_all(
     out: &mut [u8],
     text: &mut [u8],
 ) -> State
-    requires { ⌜ (length (now input) ≤ 65536) × (11 * length (now out) ≤ 4 * length (now text)) ⌝ }
-    requires { ⌜ (516 ≤ length (now out)) × Begun session ⌝ }
+    requires { ⌜ ((8 ≤ length (now input)) × (length (now input) ≤ 65536)) × (11 * length (now out) ≤ 4 * length (now text)) ⌝ }
+    requires { ⌜ (516 ≤ length (now out)) × Started session ⌝ }
     ensures { λ r. ⌜ WorkedAll file session r ⌝ }
 {
     let mut state = State {
@@ -225,7 +222,7 @@ fn work_all(
         ended: false,
         written: true,
     };
-    while goes_on(state.refusal, state.ended, state.written) {
+    while more_to_do(state.refusal, state.ended, state.written) {
         state = turn(file, state, input, out, text);
     }
     state
@@ -233,7 +230,7 @@ fn work_all(
 
 // "a file that can't be opened counts as empty": every read of it fails. Where standard output takes no more, no last line is put.
 fn answer_events(session: Session, text: &mut [u8]) -> usize
-    requires { ⌜ (90112 ≤ length (now text)) × Begun session ⌝ }
+    requires { ⌜ (90112 ≤ length (now text)) × Started session ⌝ }
     ensures { λ r. ⌜ EventsAnswered session (now (text .exit)) r ⌝ }
     ensures { λ r. ⌜ Counts r (now (text .exit)) ⌝ }
 {
@@ -253,7 +250,7 @@ fn answer_events(session: Session, text: &mut [u8]) -> usize
 // "The query is judged first"
 fn answer(query: &[u8], text: &mut [u8]) -> usize
     requires { ⌜ 90112 ≤ length (now text) ⌝ }
-    ensures { λ r. ⌜ Answered (now (query .entry)) (now (text .exit)) r ⌝ }
+    ensures { λ r. ⌜ Replied (now (query .entry)) (now (text .exit)) r ⌝ }
     ensures { λ r. ⌜ Counts r (now (text .exit)) ⌝ }
 {
     let begun = session::begin(query);

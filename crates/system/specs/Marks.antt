@@ -1,43 +1,55 @@
 -- What a call of the system leaves behind for a contract to speak of.
 --
---   Opened path file         the file was opened by this path
---   Given file bytes         one call of this crate's gave the bytes, which came from reads of the file, end to end
+--   FileOpened path file     the file was opened by this path
+--   ReadGave file bytes      a call of a function of this crate gave the bytes, which came from reads of the file, end to end
+--   ReadOver file            a read of the file that had room gave nothing: the file was at its end, or the read failed
 --   Handed bytes taken       the bytes were handed to standard output, and `taken` answers whether all were taken
---   Received file bytes      calls one after the other gave the bytes, end to end
---   Delivered bytes          the bytes were handed to standard output by calls one after the other, end to end, and all were taken
+--   Received file bytes      the bytes are pieces, end to end, each of which a call gave
+--   Delivered bytes          the bytes are pieces, end to end, each of which was handed to standard output by a call, and taken
 --   ReadAt file at l l′ r    one read of the file into l from at on, which gave r bytes and left l′
+--   ReadFull file l r        reads of the file into l from its start on, which gave r bytes
 --
--- The first three are marks: what they stand for is not said to any other module, and only Marks.Seal makes them. That module is for the proofs of this
--- crate's functions alone (tests/marks/run holds every other file to it), so a function that claims a mark has called the function that gives it.
--- Assumes nothing. NOT here: what a file has in it, which nothing can say.
+-- The first four are marks: what they stand for is not said to any other module, and only Marks.Seal makes them. That module is for the proofs of this
+-- crate's functions alone (tests/marks/run holds every other file to it), so a function that claims a mark has called a function that gives it. That the
+-- functions of this crate make the call that their mark stands for is read in src/lib.rt, not proved. A mark says that a call was made: not how often, in
+-- which order, or what other calls were made. Assumes nothing. NOT here: what a file has in it, which nothing can say.
 pub mod Seal
-pub mod Laws
-use Prim.Native.Nat.{ℕ, _+_, _≤_}
+use Prim.Native.Nat.{ℕ, _+_, _≤_, _<_}
 use mathlib.Core.Path.{_≡_}
 use mathlib.Core.Bool.{Bool, true}
 use mathlib.Core.List.{List, [], _++_}
 use lib.ListN.{length, take, drop}
+use Rattle.io.specs.Counts.{Counts}
 use Rattle.system.specs.declared.File.{File}
 
-pub Opened : List ℕ → File → Type 0
-Opened path file = file ≡ file
+pub FileOpened : List ℕ → File → Type 0
+FileOpened path file = file ≡ file
 
-pub Given : File → List ℕ → Type 0
-Given file bytes = bytes ≡ bytes
+pub ReadGave : File → List ℕ → Type 0
+ReadGave file bytes = bytes ≡ bytes
+
+pub ReadOver : File → Type 0
+ReadOver file = file ≡ file
 
 pub Handed : List ℕ → Bool → Type 0
 Handed bytes taken = bytes ≡ bytes
 
 pub data Received (file : File) : List ℕ → Type 0 where
   nothing-yet : Received file []
-  received : {before : List ℕ} → Received file before → (bytes : List ℕ) → Given file bytes → Received file (before ++ bytes)
+  received : {before : List ℕ} → Received file before → (bytes : List ℕ) → ReadGave file bytes → Received file (before ++ bytes)
 
 pub data Delivered : List ℕ → Type 0 where
   none-yet : Delivered []
   delivered : {before : List ℕ} → Delivered before → (bytes : List ℕ) → Handed bytes true → Delivered (before ++ bytes)
 
 pub record ReadAt (file : File) (at : ℕ) (l l′ : List ℕ) (r : ℕ) : Type 0 where
-  pub given : Given file (take r (drop at l′))
+  pub given : ReadGave file (take r (drop at l′))
+  pub over : r ≡ 0 → at < length l → ReadOver file
   pub within : at + r ≤ length l′
   pub long : length l′ ≡ length l
   pub kept : take at l′ ≡ take at l
+
+pub record ReadFull (file : File) (l : List ℕ) (r : ℕ) : Type 0 where
+  pub given : ReadGave file (take r l)
+  pub over : r < length l → ReadOver file
+  pub counts : Counts r l

@@ -1,12 +1,10 @@
 // The system as a program meets it: a file opened, bytes read, bytes written.
 //
-// No contract can say which bytes a read gives, or what becomes of bytes that are written. So each call here leaves a mark in its contract that
-// no other function gives (specs/Marks): these bytes were given by a read, those were handed to a write.
-ghost use mathlib.Core.Path.{_≡_};
-ghost use Prim.Native.Nat.{_+_, _≤_};
-ghost use lib.ListN.{length, take, drop};
-ghost use Rattle.io.specs.Counts.{Counts};
-ghost use Rattle.system.specs.Marks.{Opened, Given, Handed, ReadAt};
+// No contract can say which bytes a read gives, or what becomes of bytes that are written. So each call here but `close` leaves a mark in its contract, which
+// comes from these functions alone (specs/Marks): these bytes were given by a read, those were handed to a write.
+ghost use Prim.Native.Nat.{_≤_};
+ghost use lib.ListN.{length};
+ghost use Rattle.system.specs.Marks.{FileOpened, Handed, ReadAt, ReadFull};
 
 // A file that was opened for reading, by the system's number for it.
 pub struct File {
@@ -15,7 +13,7 @@ pub struct File {
 
 // Opens a file for reading. Of one that can't be opened every read fails.
 pub fn open(path: &[u8]) -> File
-    ensures { λ r. ⌜ Opened (now (path .entry)) r ⌝ }
+    ensures { λ r. ⌜ FileOpened (now (path .entry)) r ⌝ }
 {
     let number = os::open_read(path);
     File { number }
@@ -32,8 +30,7 @@ pub fn read_at(file: File, input: &mut [u8], at: usize) -> usize
 
 // Reads until `input` is full, the file ends or a read fails. Answers how many bytes came.
 pub fn read_full(file: File, input: &mut [u8]) -> usize
-    ensures { λ r. ⌜ Given file (take r (now (input .exit))) ⌝ }
-    ensures { λ r. ⌜ Counts r (now (input .exit)) ⌝ }
+    ensures { λ r. ⌜ ReadFull file (now (input .exit)) r ⌝ }
 {
     io::read_full(file.number, input)
 }

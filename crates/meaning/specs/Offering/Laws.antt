@@ -31,7 +31,7 @@ use Rattle.meaning.specs.Record.{isRecord, eventIf, eventOf}
 use Rattle.meaning.specs.Answer.{event, isBad, eventRefusals, refusals, lowestOr, lowest, yield, answerIf, answer, after}
 use Rattle.meaning.specs.Answer.Laws.{taken-added}
 use Rattle.meaning.specs.Answer.Bounds.{Bounded}
-use Rattle.meaning.specs.Offering.{Offering, first, goesOn, offering}
+use Rattle.meaning.specs.Offering.{Offering, first, unlessRefused, offering}
 
 abbrev accepted : List Event → Offering
 accepted es = record { events = es; refusal = none }
@@ -55,8 +55,8 @@ short-bad bs h = not-eight (eqb (length bs) 8) _ _ _ (ne-eqb (length bs) 8 (λ z
 module _ (q : Query) where
   -- one record and then others
   then-by :
-      (o : Option ℕ) (es es′ : List Event) (v w w′ : Offering) → (v ≡ accepted es′ → w ≡ w′) → goesOn o es v ≡ accepted es′ → goesOn o es w ≡ w′
-  unfolding goesOn
+      (o : Option ℕ) (es es′ : List Event) (v w w′ : Offering) → (v ≡ accepted es′ → w ≡ w′) → unlessRefused o es v ≡ accepted es′ → unlessRefused o es w ≡ w′
+  unfolding unlessRefused
   then-by none es es′ v w w′ f e = f e
   then-by (some r) es es′ v w w′ f e = absurd (some-none r (ap (λ (x : Offering). x .refusal) e))
 
@@ -76,8 +76,8 @@ module _ (q : Query) where
 
   stops-by :
       (o : Option ℕ) (es es′ : List Event) (r : ℕ) (v w : Offering) → (v ≡ stopped es′ r → w ≡ stopped es′ r) →
-      goesOn o es v ≡ stopped es′ r → goesOn o es w ≡ stopped es′ r
-  unfolding goesOn
+      unlessRefused o es v ≡ stopped es′ r → unlessRefused o es w ≡ stopped es′ r
+  unfolding unlessRefused
   stops-by none es es′ r v w f e = f e
   stops-by (some k) es es′ r v w f e = e
 
@@ -95,18 +95,18 @@ module _ (q : Query) where
   offering-more (suc n) es bs more h =
       let head : take 8 (bs ++ more) ≡ take 8 bs = take-append-le 8 bs more (omega arith) in
       let tail : drop 8 (bs ++ more) ≡ drop 8 bs ++ more = drop-append-le 8 bs more (omega arith) in
-      ap₂ (λ (x y : List ℕ). goesOn (lowest (refusals q (document es) (event x roomNeeded))) es (offering q n (after q es (event x roomNeeded)) y)) head tail
-      ∙ ap (goesOn (lowest (refusals q (document es) (first bs))) es)
+      ap₂ (λ (x y : List ℕ). unlessRefused (lowest (refusals q (document es) (event x roomNeeded))) es (offering q n (after q es (event x roomNeeded)) y)) head tail
+      ∙ ap (unlessRefused (lowest (refusals q (document es) (first bs))) es)
       (offering-more n (after q es (first bs)) (drop 8 bs) more (omega (arith, length-drop 8 bs)))
 
   -- one record
   pub one-record : (es : List Event) (bs : List ℕ) → lowest (refusals q (document es) (first bs)) ≡ none → offering q 1 es bs ≡ accepted (after q es (first bs))
-  unfolding offering goesOn
-  one-record es bs e = ap (λ (o : Option ℕ). goesOn o es (accepted (after q es (first bs)))) e
+  unfolding offering unlessRefused
+  one-record es bs e = ap (λ (o : Option ℕ). unlessRefused o es (accepted (after q es (first bs)))) e
 
   pub refused-record : (es : List Event) (bs : List ℕ) (r : ℕ) → lowest (refusals q (document es) (first bs)) ≡ some r → offering q 1 es bs ≡ stopped es r
-  unfolding offering goesOn
-  refused-record es bs r e = ap (λ (o : Option ℕ). goesOn o es (accepted (after q es (first bs)))) e
+  unfolding offering unlessRefused
+  refused-record es bs r e = ap (λ (o : Option ℕ). unlessRefused o es (accepted (after q es (first bs)))) e
 
   -- "Leftover bytes under 8 are a bad record": 2 applies, and 1 does not
   pub offering-short : (es : List Event) (bs : List ℕ) → length bs < 8 → offering q 1 es bs ≡ stopped es 2
@@ -123,7 +123,7 @@ module _ (q : Query) where
       ap length (t .2) ∙ length-append es (t .0 ∷ [])
 
   pub length-offered : (n : ℕ) (es es′ : List Event) (bs : List ℕ) → offering q n es bs ≡ accepted es′ → length es′ ≡ length es + n
-  unfolding offering goesOn
+  unfolding offering unlessRefused
   length-offered zero es es′ bs e = let s : es ≡ es′ = ap (λ (x : Offering). x .events) e in omega (arith, ap length s)
   length-offered (suc n) es es′ bs e =
       by (lowest (refusals q (document es) (first bs))) refl (length-offered n (after q es (first bs)) es′ (drop 8 bs)) e
@@ -131,7 +131,7 @@ module _ (q : Query) where
       by :
           (o : Option ℕ) → lowest (refusals q (document es) (first bs)) ≡ o →
           (offering q n (after q es (first bs)) (drop 8 bs) ≡ accepted es′ → length es′ ≡ length (after q es (first bs)) + n) →
-          goesOn o es (offering q n (after q es (first bs)) (drop 8 bs)) ≡ accepted es′ → length es′ ≡ length es + suc n
+          unlessRefused o es (offering q n (after q es (first bs)) (drop 8 bs)) ≡ accepted es′ → length es′ ≡ length es + suc n
       by none l f e = omega (arith, f e, record-added es bs l)
       by (some r) l f e = absurd (some-none r (ap (λ (x : Offering). x .refusal) e))
 

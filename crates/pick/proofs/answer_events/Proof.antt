@@ -21,7 +21,7 @@ slice-aggregate-work-all-2 : tie.Need-slice-aggregate-work-all-2
 slice-aggregate-work-all-2 c = search needs
 
 work-all-requires : tie.Need-work-all-requires
-work-all-requires c κs = ((search needs, search needs), (search needs, c .before .before .before .before .before .before .pre .1))
+work-all-requires c κs = (((search needs, search needs), search needs), (search needs, c .before .before .before .before .before .before .pre .1))
 
 close-requires : tie.Need-close-requires
 close-requires c κs = search needs
@@ -48,7 +48,7 @@ same-length-2 : tie.Need-same-length-2
 same-length-2 c = search needs
 
 returns-2 : tie.Need-returns-2
-returns-2 c = (inr (c .before .before .before .before .before .before .work-all .ensures .failed (c .if1 .left)), (omega arith, refl))
+returns-2 c = (inr (c .before .before .before .before .before .before .work-all .ensures .failed (c .if1 .left), refl), (omega arith, refl))
 
 pub answer-events-spec : {M : Type 1} → statement M
 answer-events-spec =

@@ -24,8 +24,8 @@ returns c =
     let start = c .before .before .before .before .before .before .before .before .before .before .before .before .before in
     let read = c .before .before .before .before .before .read-at in
     let moved = c .before .before .before .before .before .before .before .before .before .move-down in
-    read-nothing (start .args .file) (start .args .state) (start .args .input .now) _ _ (read .result) (start .pre) (moved .ensures)
-    (read .ensures) (c .before .if1 .taken) (c .leftover .result) (c .leftover .ensures)
+    read-nothing (start .args .file) (start .args .state) (start .args .input .now) _ _ (read .result) (start .pre .0) (moved .ensures)
+    (read .ensures) (start .pre .1) (c .before .if1 .taken) (c .leftover .result) (c .leftover .ensures)
 
 add-t17 : tie.Need-add-t17
 add-t17 c = search needs
@@ -38,8 +38,8 @@ returns-2 c =
     let start = c .before .before .before .before .before .before .before .before .before .before .before .before in
     let read = c .before .before .before .before .read-at in
     let moved = c .before .before .before .before .before .before .before .before .move-down in
-    read-some (start .args .file) (start .args .state) (start .args .input .now) _ _ (read .result) (start .pre) (moved .ensures)
-    (read .ensures) (c .if1 .left)
+    read-some (start .args .file) (start .args .state) (start .args .input .now) _ _ (read .result) (start .pre .0) (moved .ensures)
+    (read .ensures) (start .pre .1) (c .if1 .left)
 
 pub read-more-spec : {M : Type 1} → statement M
 read-more-spec =

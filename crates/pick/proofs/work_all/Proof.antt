@@ -7,15 +7,15 @@ use mathlib.Core.List.{List, []}
 use lib.ListN.{length}
 use borrow.Author.Needs.{needs}
 use Rattle.promise.specs.Promise.{Of}
-use Rattle.pick.specs.State.{Within, Underway}
-use Rattle.pick.specs.State.Turns.{begun-underway, turn-underway, turn-within, measure, turn-less, underway-few, underway-streamed}
+use Rattle.pick.specs.State.{UnreadWithin, TurnsSoFar}
+use Rattle.pick.specs.State.Turns.{begun-so-far, turn-so-far, turn-within, measure, turn-less, so-far-few, so-far-streamed}
 use Rattle.pick.proofs.work_all.Statement.{statement}
 use Rattle.pick.proofs.work_all.Tie as tie
 
 abbrev Inv-loop : tie.InvT-loop
 Inv-loop file input₀ out₀ text₀ state₀ input out text state =
     ((length input ≡ length input₀) × ((length out ≡ length out₀) × (length text ≡ length text₀)))
-    × (Within state (length input) × ((b : List ℕ) → Of b [] (state₀ .session) → Underway b file state input))
+    × (UnreadWithin state (length input) × ((b : List ℕ) → Of b [] (state₀ .session) → TurnsSoFar b file state input))
 
 abbrev μ-loop : tie.MeasureT-loop
 μ-loop file input₀ out₀ text₀ state₀ input out text state = measure (length input₀) state input
@@ -24,24 +24,24 @@ loop-holds : tie.Need-loop-holds Inv-loop μ-loop
 loop-holds c =
     let a = c .before .before .before .args in (
       (refl, (refl, refl)),
-      (record { forward = omega arith; inside = omega arith }, λ b o. begun-underway (a .file) (a .session) (a .input .now) o),
+      (record { forward = omega arith; inside = omega arith }, λ b o. begun-so-far (a .file) (a .session) (a .input .now) o),
     )
 
-goes-on-requires : tie.Need-goes-on-requires Inv-loop μ-loop
-goes-on-requires c κs = search needs
+more-to-do-requires : tie.Need-more-to-do-requires Inv-loop μ-loop
+more-to-do-requires c κs = search needs
 
 turn-requires : tie.Need-turn-requires Inv-loop μ-loop
 turn-requires c κs =
     let begun = c .before .before .before .before .before .before .before .before .before .pre .1 .1 in
     let inv = c .before .before .before .before .before .loop .inv in
-    ((inv .1 .0, omega arith), (omega arith, underway-few (inv .1 .1 (begun .query) (begun .begun))))
+    ((inv .1 .0, omega arith), ((omega arith, omega arith), so-far-few (inv .1 .1 (begun .query) (begun .begun))))
 
 loop-less : tie.Need-loop-less Inv-loop μ-loop
 loop-less c =
     let start = c .before .before .before .before .before .before .before .before .before .before .before .before .before .before .before .before in
     let l = c .before .before .before .before .before .before .before .before .before .before .before .before .loop in
     let u = l .inv .1 .1 (start .pre .1 .1 .query) (start .pre .1 .1 .begun) in
-    let tested = c .before .before .before .before .before .before .before .before .before .before .before .goes-on .ensures in
+    let tested = c .before .before .before .before .before .before .before .before .before .before .before .more-to-do .ensures in
     let more = c .before .before .before .before .before .before .before .before .before .before .if1 .taken in
     turn-less (l .state) (l .input) u (sym tested ∙ more) (l .inv .1 .0)
     (length (start .args .input .now)) (l .out) _ _ (omega arith) (omega arith) (omega arith) (c .before .before .before .before .before .before .turn .ensures)
@@ -49,13 +49,13 @@ loop-less c =
 loop-again : tie.Need-loop-again Inv-loop μ-loop
 loop-again c =
     let l = c .before .before .before .before .before .before .before .before .before .before .before .before .loop in
-    let tested = c .before .before .before .before .before .before .before .before .before .before .before .goes-on .ensures in
+    let tested = c .before .before .before .before .before .before .before .before .before .before .before .more-to-do .ensures in
     let more = sym tested ∙ c .before .before .before .before .before .before .before .before .before .before .if1 .taken in
     let turned = c .before .before .before .before .before .before .turn .ensures in (
       (omega arith, (omega arith, omega arith)),
       (
         turn-within (l .state) (l .input) (l .out) _ _ turned,
-        λ b o. turn-underway (l .state) (l .input) (l .inv .1 .1 b o) more (l .inv .1 .0) (l .out) _ _ turned,
+        λ b o. turn-so-far (l .state) (l .input) (l .inv .1 .1 b o) more (l .inv .1 .0) (l .out) _ _ turned,
       ),
     )
 
@@ -72,10 +72,10 @@ returns : tie.Need-returns Inv-loop μ-loop
 returns c =
     let begun = c .before .before .before .before .before .before .pre .1 .1 in
     let u = c .before .before .loop .inv .1 .1 in
-    let stop = sym (c .before .goes-on .ensures) ∙ c .if1 .left in
+    let stop = sym (c .before .more-to-do .ensures) ∙ c .if1 .left in
     record {
-      few = underway-few (u (begun .query) (begun .begun));
-      streamed = λ t b o. underway-streamed (u b o) stop t;
+      few = so-far-few (u (begun .query) (begun .begun));
+      streamed = λ t b o. so-far-streamed (u b o) stop t;
       failed = λ t. u (begun .query) (begun .begun) .failed t;
     }
 
@@ -86,7 +86,7 @@ work-all-spec =
     Inv-loop
     μ-loop
     loop-holds
-    goes-on-requires
+    more-to-do-requires
     turn-requires
     loop-less
     loop-again

@@ -7,15 +7,16 @@
 --   outcome-written       the rest is written
 --
 -- Assumes nothing.
-use Prim.Native.Nat.{ℕ, zero, suc, _+_, _≤_, _<_}
+use Prim.Native.Nat.{ℕ, zero, suc, _+_, _%_, _≤_, _<_}
 use native.Mathlib.Omega.{arith}
 use mathlib.Core.Logic.{_⊎_, inl, inr}
 use mathlib.Core.Path.{_≡_, refl, sym, ap, _∙_, subst}
-use mathlib.Core.Bool.{Bool, true, false, not, cond}
+use mathlib.Core.Bool.{Bool, true, false, not, _||_, cond}
 use mathlib.Core.List.{List, [], _++_}
 use mathlib.Core.Option.{Option}
-use lib.ListN.{length, take}
-use borrow.Author.Tests.{lt-ltb}
+use lib.Dec.{eqb, ltb}
+use lib.ListN.{length, take, length-append}
+use borrow.Author.Tests.{lt-ltb, ltb-true, ltb-false}
 use Rattle.choice.specs.Pick.{pick}
 use Rattle.meaning.specs.Query.{Query}
 use Rattle.meaning.specs.Document.{count, finished}
@@ -24,7 +25,8 @@ use Rattle.meaning.specs.Standing.{listed}
 use Rattle.meaning.specs.Offering.{offeringAll}
 use Rattle.query.specs.declared.QueryAnswer.{QueryAnswer}
 use Rattle.query.specs.declared.QueryAnswer.the-variants.{Admitted, BadLength, BadStep}
-use Rattle.query.specs.Answer.{Answer, admitted, said, answerTo}
+use Rattle.query.specs.Rules.{stepBytes, longest, wrongLength}
+use Rattle.query.specs.Answer.{Answer, admitted, refused, said, judged, ifWrong, answerTo}
 use Rattle.query.specs.Decode.{decode}
 use Rattle.session.specs.declared.Session.{Session}
 use Rattle.session.specs.declared.Finish.{Finish}
@@ -36,11 +38,11 @@ use Rattle.lines.specs.Put.{Put}
 use Rattle.lines.specs.PutLaws.{put-taken}
 use Rattle.lines.specs.Text.{linesOf, endLine, refusedAtLine, refusedLine}
 use Rattle.system.specs.declared.File.{File}
-use Rattle.system.specs.Marks.{Opened, Given, Handed, received, nothing-yet, Delivered, delivered, none-yet}
+use Rattle.system.specs.Marks.{FileOpened, ReadOver, Handed, ReadFull, received, nothing-yet, Delivered, delivered, none-yet}
 use Rattle.pick.specs.declared.State.{State}
 use Rattle.pick.specs.Line.{queryLine, finishLine, lastLine}
 use Rattle.pick.specs.State.{refusalOf, Streamed, EventsLined}
-use Rattle.pick.specs.Program.{finishLineOf, lastLineBy, owedBy, queryName, eventsName, Lined, Answered, Outcome}
+use Rattle.pick.specs.Program.{finishLineOf, lastLineBy, owedOutputBy, owedOutput, queryName, eventsName, Lined, Replied, Outcome}
 
 -- the last line
 
@@ -69,12 +71,12 @@ last-line-owed o f e taken (suc r) t =
 
 -- the last line for a stream that was worked on whole
 pub streamed-lined :
-    {b : List ℕ} {file : File} {s : State} → Opened eventsName file → Streamed b file s → (f : Finish) → f ≡ finish (s .session) →
+    {b : List ℕ} {file : File} {s : State} → FileOpened eventsName file → Streamed b file s → (f : Finish) → f ≡ finish (s .session) →
     (text : List ℕ) (r : ℕ) → take r text ≡ lastLine f (s .taken) (s .refusal) → EventsLined b text r
 streamed-lined {b} {file} {s} op st f e text r line =
     record {
       bytes = st .bytes;
-      events-read = record { file = file; opened = op; received = st .received };
+      events-read = record { file = file; opened = op; received = st .received; to-end = st .to-end };
       delivered = st .delivered;
       line =
           line
@@ -84,8 +86,8 @@ streamed-lined {b} {file} {s} op st f e text r line =
 
 -- the query's answer
 
-query-owed : (a : QueryAnswer) (qs es : List ℕ) → 0 < length (queryLine a) → queryLine a ≡ owedBy (said a) qs es
-unfolding owedBy said
+query-owed : (a : QueryAnswer) (qs es : List ℕ) → 0 < length (queryLine a) → queryLine a ≡ owedOutputBy (said a) qs es
+unfolding owedOutputBy said
 query-owed Admitted qs es h = absurd (omega arith)
 query-owed BadLength qs es h = refl
 query-owed (BadStep k) qs es h = refl
@@ -119,7 +121,7 @@ module _ (query : List ℕ) (a : QueryAnswer) (checked : said a ≡ answerTo que
         events-read = λ e. absurd (not-admitted a long (checked ∙ e));
         before = [];
         delivered = none-yet;
-        owed-so = put-taken p fits ∙ query-owed a query [] long ∙ ap (λ (x : Answer). owedBy x query []) checked;
+        owed-so = put-taken p fits ∙ query-owed a query [] long ∙ ap (λ (x : Answer). owedOutputBy x query []) checked;
       }
 
   module _ (text text′ : List ℕ) (r : ℕ) (p : Put text 0 (queryLine a) text′ r) (none-put : r ≤ 0) where
@@ -128,7 +130,7 @@ module _ (query : List ℕ) (a : QueryAnswer) (checked : said a ≡ answerTo que
 
     -- an admitted query: the events' lines
     pub admitted-lined : (t : List ℕ) (k : ℕ) → EventsLined query t k → Lined query t k
-    unfolding owedBy said
+    unfolding owedOutputBy said
     admitted-lined t k l =
         record {
           events = l .bytes;
@@ -137,26 +139,58 @@ module _ (query : List ℕ) (a : QueryAnswer) (checked : said a ≡ answerTo que
           delivered = l .delivered;
           owed-so =
               ap (λ (x : List ℕ). linesOf (listed (decode query) (document (offeringAll (decode query) (l .bytes) .events))) ++ x) (l .line)
-              ∙ ap (λ (x : Answer). owedBy x query (l .bytes)) (sym (ap said silent-admitted) ∙ checked);
+              ∙ ap (λ (x : Answer). owedOutputBy x query (l .bytes)) (sym (ap said silent-admitted) ∙ checked);
         }
 
 pub answered-by : {A B C : Type 0} → (A → B) → A ⊎ C → B ⊎ C
 answered-by f (inl x) = inl (f x)
 answered-by f (inr y) = inr y
 
+-- a query that fills the room for one is too long, whatever follows
+
+or-true : (a : Bool) → (a || true) ≡ true
+or-true true = refl
+or-true false = refl
+
+long-refused : (qs : List ℕ) → 256 < length qs → answerTo qs ≡ refused 9
+unfolding answerTo ifWrong
+long-refused qs h =
+    let n : ℕ = length qs in
+    let wrong : wrongLength n ≡ true =
+    ap (λ (x : Bool). eqb n 0 || (not (eqb (n % stepBytes) 0) || x)) (lt-ltb longest n (omega arith))
+    ∙ ap (λ (x : Bool). eqb n 0 || x) (or-true (not (eqb (n % stepBytes) 0)))
+    ∙ or-true (eqb n 0) in
+    ap (λ (x : Bool). ifWrong x (judged qs)) wrong
+
+long-same : (qs more es : List ℕ) → 256 < length qs → owedOutput (qs ++ more) es ≡ owedOutput qs es
+unfolding owedOutputBy
+long-same qs more es h =
+    ap (λ (x : Answer). owedOutputBy x (qs ++ more) es) (long-refused (qs ++ more) (omega (arith, length-append qs more)))
+    ∙ ap (λ (x : Answer). owedOutputBy x qs es) (sym (long-refused qs h))
+
+query-end :
+    (l : List ℕ) (n : ℕ) (file : File) → ReadFull file l n → 256 < length l →
+    ReadOver file ⊎ ((more es : List ℕ) → owedOutput (take n l ++ more) es ≡ owedOutput (take n l) es)
+query-end l n file g room = by (ltb n (length l)) refl
+  where
+    by : (x : Bool) → ltb n (length l) ≡ x → ReadOver file ⊎ ((more es : List ℕ) → owedOutput (take n l ++ more) es ≡ owedOutput (take n l) es)
+    by true e = inl (g .over (ltb-true n (length l) e))
+    by false e = inr (λ more es. long-same (take n l) more es (omega (arith, room, ltb-false n (length l) e, g .counts .1)))
+
 -- the end
 
 pub outcome-written :
-    (query text : List ℕ) (r : ℕ) (file : File) → Opened queryName file → Given file query → (taken : Bool) → Handed (take r text) taken →
-    Answered query text r → Outcome
-outcome-written query text r file o g true h (inl l) =
+    (l text : List ℕ) (n r : ℕ) (file : File) → FileOpened queryName file → ReadFull file l n → 256 < length l → (taken : Bool) →
+    Handed (take r text) taken → Replied (take n l) text r → Outcome
+outcome-written l text n r file o g room true h (inl x) =
     inl
     (record {
-      query = query;
-      events = l .events;
-      query-read = record { file = file; opened = o; received = received nothing-yet query g };
-      events-read = l .events-read;
-      delivered = subst Delivered (l .owed-so) (delivered (l .delivered) (take r text) h);
+      query = take n l;
+      events = x .events;
+      query-read =
+          record { file = file; opened = o; received = received nothing-yet (take n l) (g .given); to-end = query-end l n file g room };
+      events-read = x .events-read;
+      delivered = subst Delivered (x .owed-so) (delivered (x .delivered) (take r text) h);
     })
-outcome-written query text r file o g false h (inl l) = inr (record { bytes = take r text; handed = h })
-outcome-written query text r file o g taken h (inr f) = inr f
+outcome-written l text n r file o g room false h (inl x) = inr (record { bytes = take r text; handed = h })
+outcome-written l text n r file o g room taken h (inr f) = inr (f .0)

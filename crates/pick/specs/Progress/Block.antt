@@ -46,7 +46,8 @@ use Rattle.pick.specs.Progress.Laws.{progress-none, progress-then}
 
 pub record BlockProgress (b : List ℕ) (es : List Stream.Event) (bs : List ℕ) (n : ℕ) (out : List ℕ) (f : Fed) : Type 0 where
   pub offered : Progress b es bs (f .session) (f .taken) (f .refusal) (nodesIn (f .listed) (f .out))
-  -- with room enough no block is left standing
+  -- only a whole record is refused; with room enough no block is left standing
+  pub whole : (f .refusal ≡ 0 → ⊥) → 8 * f .taken + 8 ≤ length bs
   pub some : 0 < n → 516 ≤ length out → f .refusal ≡ 0 → 0 < f .taken
 
 -- room beyond what is needed changes no answer
@@ -79,7 +80,7 @@ none-progress :
     {b : List ℕ} {es : List Stream.Event} {s : Session} (bs out : List ℕ) (n : ℕ) → (0 < n → 516 ≤ length out → ⊥) → Of b es s →
     BlockProgress b es bs n out (none-fed s out)
 unfolding nodesIn
-none-progress bs out n idle o = record { offered = progress-none bs o; some = λ p w z. absurd (idle p w) }
+none-progress bs out n idle o = record { offered = progress-none bs o; whole = λ z. absurd (z refl); some = λ p w z. absurd (idle p w) }
 
 -- one event that was refused, or taken and followed by others
 
@@ -100,6 +101,7 @@ module _ {b : List ℕ} {es : List Stream.Event} (bs out : List ℕ) (n : ℕ) (
               stopped = λ z. refused-record (decode b) es bs r e;
               listing = append-nil (listed (decode b) (document es));
             };
+        whole = λ z. omega arith;
         some = λ p w z. absurd (positive z);
       }
 
@@ -126,6 +128,7 @@ module _ {b : List ℕ} {es : List Stream.Event} (bs out : List ℕ) (n : ℕ) (
           offered =
               subst (Progress b es bs (f .session) (1 + f .taken) (f .refusal)) (sym (nodes-both ns out (f .out) (f .listed) nodes))
               (progress-then once (t .offered));
+          whole = λ z. omega (arith, t .whole z, length-drop 8 bs);
           some = λ p w z. omega arith;
         }
 

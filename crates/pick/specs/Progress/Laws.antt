@@ -1,10 +1,11 @@
 -- Offers that follow each other.
 --
 --   progress-none        before the first record
---   progress-then        TWO BLOCKS ONE AFTER THE OTHER ARE ONE STREAM
+--   progress-then        some records, and then some of those behind them
 --   progress-more        bytes that come behind change nothing, as long as no record was refused
 --   progress-short       what is left is under 8 bytes: a bad record
 --   progress-all, progress-stopped     all is taken, or one was refused: what offering all of the bytes comes to
+--   progress-same        where a whole record was refused, what follows changes nothing
 --   progress-count       each taken record is an event
 --   progress-few         no more than 33,554,430 events are accepted
 --
@@ -97,6 +98,15 @@ module _ {b bs : List ℕ} {s : Session} {t r : ℕ} {ns : List ℕ} (o : Progre
       ap (λ (k : ℕ). offering (decode b) k [] bs) n
       ∙ offering-stopped (decode b) (t + 1) _ [] (o .events) r bs
       (offering-then (decode b) t 1 [] (o .events) bs (o .accepted) ∙ o .stopped z)
+
+  -- a refused record that is whole is refused whatever follows it
+  pub progress-same : (r ≡ 0 → ⊥) → 8 * t + 8 ≤ length bs → (more : List ℕ) → offeringAll (decode b) (bs ++ more) ≡ offeringAll (decode b) bs
+  progress-same z h more =
+      let n : (length (bs ++ more) + 7) / 8 ≡ (t + 1) + ((length (bs ++ more) + 7) / 8 - (t + 1)) = omega (arith, length-append bs more) in
+      ap (λ (k : ℕ). offering (decode b) k [] (bs ++ more)) n
+      ∙ offering-stopped (decode b) (t + 1) _ [] (o .events) r (bs ++ more)
+      (offering-more (decode b) (t + 1) [] bs more (omega arith) ∙ offering-then (decode b) t 1 [] (o .events) bs (o .accepted) ∙ o .stopped z)
+      ∙ sym (progress-stopped z)
 
   pub progress-count : length (o .events) ≡ t
   progress-count = length-offered (decode b) t [] (o .events) bs (o .accepted) ∙ zero-add t

@@ -5,12 +5,13 @@
 --   part-short                   a part from a to e has at most e - a bytes
 --
 -- What is large is given explicitly. Assumes nothing. NOT here: what the turns come to together (State.Turns).
-use Prim.Native.Nat.{ℕ, zero, suc, _+_, _-_, _*_, _≤_}
+use Prim.Native.Nat.{ℕ, zero, suc, _+_, _-_, _*_, _≤_, _<_}
 use native.Mathlib.Nat.{sub-zero}
 use native.Mathlib.Omega.{arith}
 use mathlib.Core.Path.{_≡_, refl, sym, ap, ap₂, _∙_, subst}
 use mathlib.Core.Bool.{Bool, true, false}
 use mathlib.Core.List.{List, [], _∷_, _++_}
+use mir.Val.{boolByte}
 use lib.ListN.{length, take, drop, take-append-drop, length-take, length-drop}
 use lib.Seq.{take-append-add, drop-drop, length-take-le, length-sets}
 use borrow.Author.Tests.{eq-eqb, ne-eqb}
@@ -22,7 +23,7 @@ use Rattle.lines.specs.Text.{linesOf, nodesIn}
 use Rattle.system.specs.declared.File.{File}
 use Rattle.system.specs.Marks.{Handed, ReadAt}
 use Rattle.pick.specs.declared.State.{State}
-use Rattle.pick.specs.State.{unread, Within, leftoverOf, ReadMore, blockOf, Worked}
+use Rattle.pick.specs.State.{unread, UnreadWithin, leftoverOf, ReadMore, blockOf, Worked}
 
 take-add : (l : List ℕ) (a n : ℕ) → a ≤ length l → take (a + n) l ≡ take a l ++ take n (drop a l)
 take-add l a n h =
@@ -45,8 +46,9 @@ part-short l a e = rw (length-take (e - a) (drop a l)) (omega arith)
 
 -- a read
 
-module _ (file : File) (s : State) (input moved-down input′ : List ℕ) (r : ℕ) (w : Within s (length input))
-    (moved : Put input 0 (unread s input) moved-down (s .end - s .from)) (got : ReadAt file (s .end - s .from) moved-down input′ r) where
+module _ (file : File) (s : State) (input moved-down input′ : List ℕ) (r : ℕ) (w : UnreadWithin s (length input))
+    (moved : Put input 0 (unread s input) moved-down (s .end - s .from)) (got : ReadAt file (s .end - s .from) moved-down input′ r)
+    (room : s .end - s .from < length input) where
   abbrev left : ℕ
   left = s .end - s .from
 
@@ -77,6 +79,7 @@ module _ (file : File) (s : State) (input moved-down input′ : List ℕ) (r : �
         written-same = refl;
         ended-so = sym (eq-eqb (length bytes) 0 (so-many ∙ z));
         refused-so = pick-yes true x (leftoverOf left) 0 refl e;
+        over = λ t. got .over z (omega (arith, room, ap length (moved .text), length-sets input 0 (unread s input)));
       }
 
   pub read-some :
@@ -94,11 +97,12 @@ module _ (file : File) (s : State) (input moved-down input′ : List ℕ) (r : �
         written-same = refl;
         ended-so = sym (ne-eqb (length bytes) 0 (λ e. z (sym so-many ∙ e)));
         refused-so = pick-no false 0 (leftoverOf left) 0 refl refl;
+        over = λ t. let z : _≡_ {A = ℕ} 0 1 = ap boolByte t in absurd (omega arith);
       }
 
 -- a block of events
 
-module _ (s : State) (input out : List ℕ) (f : Fed) (text text′ : List ℕ) (k : ℕ) (written : Bool) (w : Within s (length input))
+module _ (s : State) (input out : List ℕ) (f : Fed) (text text′ : List ℕ) (k : ℕ) (written : Bool) (w : UnreadWithin s (length input))
     (block : f ≡ blockOf s input out) (few : 8 * f .taken ≤ length (unread s input)) (put : Put text 0 (linesOf (nodesIn (f .listed) (f .out))) text′ k)
     (fits : k ≤ length text′) (handed : Handed (take k text′) written) where
   past : take (s .end - (s .from + 8 * f .taken)) (drop (s .from + 8 * f .taken) input) ≡ drop (8 * f .taken) (unread s input)

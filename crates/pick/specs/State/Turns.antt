@@ -1,15 +1,16 @@
 -- The turns together: what has been read, taken, listed and handed to standard output by then.
 --
---   begun-underway          before the first turn
---   turn-underway           one turn more
+--   begun-so-far          before the first turn
+--   turn-so-far           one turn more
 --   measure L s input       how much is still to come at most, in an input of L bytes
 --   turn-less               each turn leaves less
---   underway-few            no more than 33,554,430 events are ever taken
---   underway-streamed       after the last turn the whole stream is offered, and all that it lists is delivered
+--   so-far-few            no more than 33,554,430 events are ever taken
+--   so-far-streamed       after the last turn the whole stream is offered, and all that it lists is delivered
 --
 -- Assumes nothing.
 use Prim.Native.Nat.{ℕ, zero, suc, _+_, _-_, _*_, _/_, _≤_, _<_}
 use native.Mathlib.Omega.{arith}
+use mathlib.Core.Logic.{_⊎_, inl, inr}
 use mathlib.Core.Path.{_≡_, refl, sym, ap, ap₂, _∙_, subst}
 use mathlib.Core.Bool.{Bool, true, false, not}
 use mathlib.Core.List.{List, [], _++_}
@@ -19,7 +20,7 @@ use lib.Dec.{eqb}
 use lib.ListN.{length, drop, length-append, length-drop}
 use lib.Seq.{drop-drop, drop-append-le, length-take-le}
 use borrow.Author.Tests.{eqb-true, eqb-false}
-use Rattle.choice.specs.Pick.{pick, pick-true, pick-known}
+use Rattle.choice.specs.Pick.{pick, pick-true, pick-false, pick-known}
 use Rattle.choice.specs.Count.{boolByte-le}
 use Rattle.meaning.specs.Query.{Query}
 use Rattle.meaning.specs.Stream.{Event, run, document}
@@ -32,12 +33,12 @@ use Rattle.promise.specs.Promise.{Of}
 use Rattle.lines.specs.Text.{linesOf, nodesIn}
 use Rattle.lines.specs.TextLaws.{linesOf-append}
 use Rattle.system.specs.declared.File.{File}
-use Rattle.system.specs.Marks.{Handed, received, nothing-yet, Delivered, delivered, none-yet}
+use Rattle.system.specs.Marks.{ReadOver, Handed, received, nothing-yet, Delivered, delivered, none-yet}
 use Rattle.pick.specs.declared.State.{State}
 use Rattle.pick.specs.Progress.{Progress}
-use Rattle.pick.specs.Progress.Laws.{progress-none, progress-more, progress-short, progress-all, progress-stopped, progress-count, progress-few}
+use Rattle.pick.specs.Progress.Laws.{progress-none, progress-more, progress-short, progress-all, progress-stopped, progress-same, progress-count, progress-few}
 use Rattle.pick.specs.Progress.Block.{BlockProgress, fed-progress, then-fed}
-use Rattle.pick.specs.State.{unread, Within, leftoverOf, refusalOf, goesOn, ReadMore, blockOf, Worked, Turned, worked, read, Underway, Streamed}
+use Rattle.pick.specs.State.{unread, UnreadWithin, leftoverOf, refusalOf, moreToDo, ReadMore, blockOf, Worked, Turned, worked, read, TurnsSoFar, Streamed}
 
 never : {A : Type 0} → _≡_ {A = Bool} false true → A
 never h = let z : _≡_ {A = ℕ} 0 1 = ap boolByte h in absurd (omega arith)
@@ -61,8 +62,8 @@ record Going (refusal : ℕ) (ended written : Bool) : Type 0 where
   not-ended : ended ≡ false
   taking : written ≡ true
 
-going : (refusal : ℕ) (ended written : Bool) → goesOn refusal ended written ≡ true → Going refusal ended written
-unfolding goesOn
+going : (refusal : ℕ) (ended written : Bool) → moreToDo refusal ended written ≡ true → Going refusal ended written
+unfolding moreToDo
 going refusal ended written =
     pick-known (λ (b : Bool). b ≡ true → Going refusal ended written) _ _ _
     (λ z.
@@ -95,29 +96,31 @@ progress-as e f g o = rw (e, f, g) o
 
 -- before the first turn
 
-pub begun-underway :
+pub begun-so-far :
     {b : List ℕ} (file : File) (session : Session) (input : List ℕ) → Of b [] session →
-    Underway b file (record { session = session; from = 0; end = 0; taken = 0; refusal = 0; ended = false; written = true }) input
+    TurnsSoFar b file (record { session = session; from = 0; end = 0; taken = 0; refusal = 0; ended = false; written = true }) input
 unfolding linesOf
-begun-underway file session input o =
+begun-so-far file session input o =
     record {
       bytes = [];
       nodes = [];
       received = nothing-yet;
       offered = progress-none [] o;
       rest = refl;
+      at-end = λ e. never e;
       over = λ e z. never e;
+      whole = λ e z. absurd (z refl);
       delivered = λ e. none-yet;
       failed = λ e. never (sym e);
     }
 
 -- how many bytes are unread
 
-unread-length : (s : State) (input : List ℕ) → Within s (length input) → length (unread s input) ≡ s .end - s .from
+unread-length : (s : State) (input : List ℕ) → UnreadWithin s (length input) → length (unread s input) ≡ s .end - s .from
 unread-length s input w = length-take-le (s .end - s .from) (drop (s .from) input) (omega (arith, length-drop (s .from) input, w .inside))
 
-module _ {b : List ℕ} {file : File} (s : State) (input : List ℕ) (u : Underway b file s input) (go : goesOn (s .refusal) (s .ended) (s .written) ≡ true)
-    (w : Within s (length input)) where
+module _ {b : List ℕ} {file : File} (s : State) (input : List ℕ) (u : TurnsSoFar b file s input) (go : moreToDo (s .refusal) (s .ended) (s .written) ≡ true)
+    (w : UnreadWithin s (length input)) where
   g : Going (s .refusal) (s .ended) (s .written)
   g = going (s .refusal) (s .ended) (s .written) go
 
@@ -142,8 +145,8 @@ module _ {b : List ℕ} {file : File} (s : State) (input : List ℕ) (u : Underw
     read-progress true e = progress-at-end (progress-more so-far (m .bytes)) few (omega (arith, read-all, ended-none e)) true
     read-progress false e = unfold pick in progress-more so-far (m .bytes)
 
-    read-underway : Underway b file s′ input′
-    read-underway =
+    read-so-far : TurnsSoFar b file s′ input′
+    read-so-far =
         record {
           bytes = u .bytes ++ m .bytes;
           nodes = u .nodes;
@@ -154,6 +157,8 @@ module _ {b : List ℕ} {file : File} (s : State) (input : List ℕ) (u : Underw
               ∙ ap (λ (x : List ℕ). x ++ m .bytes) (u .rest)
               ∙ sym (drop-append-le (8 * s .taken) (u .bytes) (m .bytes) (so-far .within))
               ∙ ap (λ (t : ℕ). drop (8 * t) (u .bytes ++ m .bytes)) (sym (m .taken-same));
+          at-end = m .over;
+          whole = λ e z. absurd (z (m .refused-so ∙ pick-false (s′ .ended) (leftoverOf (s .end - s .from)) 0 e));
           over =
               λ e z.
               let none-left : s .end - s .from ≡ 0 =
@@ -172,9 +177,9 @@ module _ {b : List ℕ} {file : File} (s : State) (input : List ℕ) (u : Underw
     more-nodes : List ℕ
     more-nodes = nodesIn (blockOf s input out .listed) (blockOf s input out .out)
 
-    work-underway : Underway b file s′ input
+    work-so-far : TurnsSoFar b file s′ input
     unfolding more-nodes
-    work-underway =
+    work-so-far =
         let k : ℕ = blockOf s input out .taken in
         let at : 8 * s .taken + 8 * k ≡ 8 * s′ .taken = omega (arith, b′ .taken-so) in
         record {
@@ -188,7 +193,12 @@ module _ {b : List ℕ} {file : File} (s : State) (input : List ℕ) (u : Underw
               ∙ ap (drop (8 * k)) (u .rest)
               ∙ drop-drop (8 * k) (8 * s .taken) (u .bytes)
               ∙ ap (λ (n : ℕ). drop n (u .bytes)) at;
+          at-end = λ e. never (sym (b′ .not-ended) ∙ e);
           over = λ e z. never (sym (b′ .not-ended) ∙ e);
+          whole =
+              λ e z.
+              omega
+              (arith, told .whole (λ x. z (b′ .refusal-so ∙ x)), ap length (u .rest), length-drop (8 * s .taken) (u .bytes), so-far .within, b′ .taken-so);
           delivered =
               λ e.
               subst Delivered (sym (linesOf-append (u .nodes) more-nodes))
@@ -196,9 +206,9 @@ module _ {b : List ℕ} {file : File} (s : State) (input : List ℕ) (u : Underw
           failed = λ e. record { bytes = linesOf more-nodes; handed = subst (Handed (linesOf more-nodes)) e (b′ .handed) };
         }
 
-  pub turn-underway : (out : List ℕ) (s′ : State) (input′ : List ℕ) → Turned file s input out s′ input′ → Underway b file s′ input′
-  turn-underway out s′ input′ (worked many same x) = subst (Underway b file s′) (sym same) (work-underway out s′ x)
-  turn-underway out s′ input′ (read few m) = read-underway s′ input′ few m
+  pub turn-so-far : (out : List ℕ) (s′ : State) (input′ : List ℕ) → Turned file s input out s′ input′ → TurnsSoFar b file s′ input′
+  turn-so-far out s′ input′ (worked many same x) = subst (TurnsSoFar b file s′) (sym same) (work-so-far out s′ x)
+  turn-so-far out s′ input′ (read few m) = read-so-far s′ input′ few m
 
   -- how much is still to come
 
@@ -236,7 +246,7 @@ module _ {b : List ℕ} {file : File} (s : State) (input : List ℕ) (u : Underw
       left = ap length (x .left) ∙ length-drop (8 * blockOf s input out .taken) (unread s input)
 
       few : s .taken + blockOf s input out .taken ≤ 33554430
-      few = omega (arith, progress-few (work-underway out s′ x .offered), x .taken-so)
+      few = omega (arith, progress-few (work-so-far out s′ x .offered), x .taken-so)
 
       room-for : (8 * blockOf s input out .taken ≤ length (unread s input)) × (length (unread s input) ≤ L)
       room-for = (told out s′ x .offered .within, omega (arith, long, unread-length s input w, w .inside))
@@ -259,19 +269,20 @@ module _ {b : List ℕ} {file : File} (s : State) (input : List ℕ) (u : Underw
 
 -- after the last turn
 
-pub turn-within : {file : File} (s : State) (input out : List ℕ) (s′ : State) (input′ : List ℕ) → Turned file s input out s′ input′ → Within s′ (length input′)
-turn-within s input out s′ input′ (worked many same x) = subst (λ (i : List ℕ). Within s′ (length i)) (sym same) (x .within)
+pub turn-within : {file : File} (s : State) (input out : List ℕ) (s′ : State) (input′ : List ℕ) → Turned file s input out s′ input′ → UnreadWithin s′ (length input′)
+turn-within s input out s′ input′ (worked many same x) = subst (λ (i : List ℕ). UnreadWithin s′ (length i)) (sym same) (x .within)
 turn-within s input out s′ input′ (read few m) = m .within
 
-module _ {b : List ℕ} {file : File} {s : State} {input : List ℕ} (u : Underway b file s input) where
-  pub underway-few : s .taken ≤ 33554430
-  underway-few = progress-few (u .offered)
+module _ {b : List ℕ} {file : File} {s : State} {input : List ℕ} (u : TurnsSoFar b file s input) where
+  pub so-far-few : s .taken ≤ 33554430
+  so-far-few = progress-few (u .offered)
 
   -- the whole stream, by what offering it comes to
   streamed-as :
       (w : Offering) → offeringAll (decode b) (u .bytes) ≡ w → w .events ≡ u .offered .events → w .refusal ≡ refusalOf (s .refusal) →
-      s .written ≡ true → Streamed b file s
-  streamed-as w e ev r t =
+      ReadOver file ⊎ ((more : List ℕ) → offeringAll (decode b) (u .bytes ++ more) ≡ offeringAll (decode b) (u .bytes)) → s .written ≡ true →
+      Streamed b file s
+  streamed-as w e ev r end t =
       let es : offeringAll (decode b) (u .bytes) .events ≡ u .offered .events = ap (λ (x : Offering). x .events) e ∙ ev in
       record {
         bytes = u .bytes;
@@ -279,22 +290,30 @@ module _ {b : List ℕ} {file : File} {s : State} {input : List ℕ} (u : Underw
         reached = subst (λ (fs : List Event). Of b fs (s .session)) (sym es) (u .offered .reached);
         counted = sym (ap length es ∙ progress-count (u .offered));
         refusal-so = sym (ap (λ (x : Offering). x .refusal) e ∙ r);
+        to-end = end;
         delivered =
             subst Delivered (ap linesOf (u .offered .listing ∙ ap (λ (fs : List Event). listed (decode b) (document fs)) (sym es)))
             (subst (λ (l : List ℕ). Delivered (linesOf (l ++ u .nodes))) (sym (listed-none (decode b))) (u .delivered t));
       }
 
-  pub underway-streamed : goesOn (s .refusal) (s .ended) (s .written) ≡ false → s .written ≡ true → Streamed b file s
-  unfolding goesOn refusalOf
-  underway-streamed stop t =
+  stopped-end :
+      (ended : Bool) → s .ended ≡ ended → (s .refusal ≡ 0 → ⊥) →
+      ReadOver file ⊎ ((more : List ℕ) → offeringAll (decode b) (u .bytes ++ more) ≡ offeringAll (decode b) (u .bytes))
+  stopped-end true e z = inl (u .at-end e)
+  stopped-end false e z = inr (progress-same (u .offered) z (u .whole e z))
+
+  pub so-far-streamed : moreToDo (s .refusal) (s .ended) (s .written) ≡ false → s .written ≡ true → Streamed b file s
+  unfolding moreToDo refusalOf
+  so-far-streamed stop t =
       pick-known (λ (x : Bool). x ≡ false → Streamed b file s) (eqb (s .refusal) 0) _ _
       (λ z.
       pick-known (λ (x : Bool). x ≡ false → Streamed b file s) (s .ended) _ _
       (λ e h.
       streamed-as _ (progress-all (u .offered) (eqb-true _ _ z) (u .over e (eqb-true _ _ z))) refl
-      (refusal-none (s .refusal) (eqb-true _ _ z)) t)
+      (refusal-none (s .refusal) (eqb-true _ _ z)) (inl (u .at-end e)) t)
       (λ e h. never (sym h ∙ t)))
-      (λ z h. streamed-as _ (progress-stopped (u .offered) (eqb-false _ _ z)) refl (refusal-some (s .refusal) (eqb-false _ _ z)) t) stop
+      (λ z h. streamed-as _ (progress-stopped (u .offered) (eqb-false _ _ z)) refl (refusal-some (s .refusal) (eqb-false _ _ z)) (stopped-end (s .ended) refl (eqb-false _ _ z)) t)
+      stop
     where
       refusal-none : (r : ℕ) → r ≡ 0 → none ≡ refusalOf r
       refusal-none r z = sym (ap refusalOf {x = r} {y = 0} z)

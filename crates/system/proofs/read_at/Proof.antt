@@ -1,7 +1,7 @@
 -- `system::read_at` meets its contract. Assumes nothing.
 use borrow.Author.Needs.{needs}
-use Rattle.system.specs.Marks.Laws.{read-part}
-use Rattle.system.specs.Marks.Seal.{given}
+use Rattle.system.specs.ReadPart.{read-part}
+use Rattle.system.specs.Marks.Seal.{gave, over}
 use Rattle.system.proofs.read_at.Statement.{statement}
 use Rattle.system.proofs.read_at.Tie as tie
 
@@ -36,7 +36,7 @@ returns : tie.Need-returns
 returns c =
     let a = c .before .before .before .before .before .before .before .before .before .args in
     let put = c .before .before .before .before .before .read .last .1 .0 in
-    read-part (a .file) (a .at) (a .input .now) put _ (search needs) (search needs) (c .count .ensures .0 .0) (given _ _)
+    read-part (a .file) (a .at) (a .input .now) put _ (search needs) (search needs) (c .count .ensures .0 .0) (gave _ _) (over _)
 
 pub read-at-spec : {M : Type 1} → statement M
 read-at-spec =

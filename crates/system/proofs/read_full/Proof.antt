@@ -1,6 +1,6 @@
 -- `system::read_full` meets its contract. Assumes nothing.
 use borrow.Author.Needs.{needs}
-use Rattle.system.specs.Marks.Seal.{given}
+use Rattle.system.specs.Marks.Seal.{gave, over}
 use Rattle.system.proofs.read_full.Statement.{statement}
 use Rattle.system.proofs.read_full.Tie as tie
 
@@ -11,7 +11,7 @@ same-length : tie.Need-same-length
 same-length c = search needs
 
 returns : tie.Need-returns
-returns c = (given _ _, search needs)
+returns c = record { given = gave _ _; over = λ room. over _; counts = search needs }
 
 pub read-full-spec : {M : Type 1} → statement M
 read-full-spec = tie.close (tie.spec read-full-requires same-length returns)

@@ -1,6 +1,6 @@
 -- The marks, made: for the proofs of this crate's functions and for no other.
 --
---   opened, given, handed      a call of the system has been made
+--   opened, gave, over, handed      a call of the system has been made
 --
 -- Assumes nothing.
 use Prim.Native.Nat.{ℕ}
@@ -8,15 +8,19 @@ use mathlib.Core.Path.{refl}
 use mathlib.Core.Bool.{Bool}
 use mathlib.Core.List.{List}
 use Rattle.system.specs.declared.File.{File}
-use Rattle.system.specs.Marks.{Opened, Given, Handed}
+use Rattle.system.specs.Marks.{FileOpened, ReadGave, ReadOver, Handed}
 
-pub opened : (path : List ℕ) (file : File) → Opened path file
-unfolding Opened
+pub opened : (path : List ℕ) (file : File) → FileOpened path file
+unfolding FileOpened
 opened path file = refl
 
-pub given : (file : File) (bytes : List ℕ) → Given file bytes
-unfolding Given
-given file bytes = refl
+pub gave : (file : File) (bytes : List ℕ) → ReadGave file bytes
+unfolding ReadGave
+gave file bytes = refl
+
+pub over : (file : File) → ReadOver file
+unfolding ReadOver
+over file = refl
 
 pub handed : (bytes : List ℕ) (taken : Bool) → Handed bytes taken
 unfolding Handed

@@ -1,22 +1,22 @@
--- `pick::goes_on` meets its contract. Assumes nothing.
+-- `pick::more_to_do` meets its contract. Assumes nothing.
 use mathlib.Core.Path.{refl}
 use borrow.Author.Tests.{eq-eqb, ne-eqb}
 use Rattle.choice.specs.Pick.{pick-yes, pick-no}
-use Rattle.pick.specs.State.{goesOn}
-use Rattle.pick.proofs.goes_on.Statement.{statement}
-use Rattle.pick.proofs.goes_on.Tie as tie
+use Rattle.pick.specs.State.{moreToDo}
+use Rattle.pick.proofs.more_to_do.Statement.{statement}
+use Rattle.pick.proofs.more_to_do.Tie as tie
 
 returns : tie.Need-returns
-unfolding goesOn
+unfolding moreToDo
 returns c = pick-no _ _ _ _ (ne-eqb _ _ (c .if1 .taken)) refl
 
 returns-2 : tie.Need-returns-2
-unfolding goesOn
+unfolding moreToDo
 returns-2 c = pick-yes _ _ _ _ (eq-eqb _ _ (c .before .if1 .left)) (pick-yes _ _ _ _ (c .if2 .taken) refl)
 
 returns-3 : tie.Need-returns-3
-unfolding goesOn
+unfolding moreToDo
 returns-3 c = pick-yes _ _ _ _ (eq-eqb _ _ (c .before .if1 .left)) (pick-no _ _ _ _ (c .if2 .left) refl)
 
-pub goes-on-spec : {M : Type 1} → statement M
-goes-on-spec = tie.close (tie.spec returns returns-2 returns-3)
+pub more-to-do-spec : {M : Type 1} → statement M
+more-to-do-spec = tie.close (tie.spec returns returns-2 returns-3)
