@@ -33,7 +33,7 @@ use Rattle.query.specs.Answer.{Answer, admitted, refused, refusedAt, answerTo}
 use Rattle.query.specs.Decode.{decode}
 use Rattle.lines.specs.Text.{linesOf, endLine, refusedAtLine, refusedLine}
 use Rattle.system.specs.declared.File.{File}
-use Rattle.system.specs.Marks.{FileOpened, ReadOver, Handed, Received, Delivered}
+use Rattle.system.specs.Marks.{FileOpened, ReadOver, WriteTold, Received, Delivered}
 
 -- "`end N` with the number handed out"; "for refusal 8 the number of accepted events"
 unfoldable pub finishLineOf : Query → List Event → List ℕ
@@ -62,7 +62,7 @@ owedOutput qs es = owedOutputBy (answerTo qs) qs es
 -- bytes that standard output did not take
 pub record Failed : Type 0 where
   pub bytes : List ℕ
-  pub handed : Handed bytes false
+  pub handed : WriteTold bytes false
 
 -- "query.rec" and "events.rec"
 abbrev pub queryName : List ℕ

@@ -37,7 +37,7 @@ use Rattle.promise.specs.Promise.{Of}
 use Rattle.blocks.specs.Fed.{Fed}
 use Rattle.lines.specs.Text.{linesOf, nodesIn}
 use Rattle.system.specs.declared.File.{File}
-use Rattle.system.specs.Marks.{ReadGave, ReadOver, Handed, Received, Delivered}
+use Rattle.system.specs.Marks.{ReadGave, ReadOver, WriteTold, Received, Delivered}
 use Rattle.pick.specs.declared.State.{State}
 use Rattle.pick.specs.Progress.{Progress}
 use Rattle.pick.specs.Progress.Block.{blockFed}
@@ -90,7 +90,7 @@ pub record Worked (s : State) (input out : List ℕ) (s′ : State) : Type 0 whe
   pub left : unread s′ input ≡ drop (8 * blockOf s input out .taken) (unread s input)
   pub within : UnreadWithin s′ (length input)
   pub not-ended : s′ .ended ≡ false
-  pub handed : Handed (linesOf (nodesIn (blockOf s input out .listed) (blockOf s input out .out))) (s′ .written)
+  pub handed : WriteTold (linesOf (nodesIn (blockOf s input out .listed) (blockOf s input out .out))) (s′ .written)
 
 pub data Turned (file : File) (s : State) (input out : List ℕ) (s′ : State) (input′ : List ℕ) : Type 0 where
   worked : 8 ≤ s .end - s .from → input′ ≡ input → Worked s input out s′ → Turned file s input out s′ input′

@@ -9,7 +9,7 @@ ghost use Rattle.blocks.specs.Fed.{RunGives};
 ghost use Rattle.io.specs.Counts.{Counts};
 ghost use Rattle.lines.specs.Put.{Put};
 ghost use Rattle.lines.specs.Text.{linesOf, nodesIn};
-ghost use Rattle.system.specs.Marks.{Handed};
+ghost use Rattle.system.specs.Marks.{WriteTold};
 ghost use Rattle.pick.specs.Program.{Outcome, Replied};
 ghost use Rattle.pick.specs.Line.{queryLine, lastLine};
 ghost use Rattle.pick.specs.State.{UnreadWithin, Started, leftoverOf, moreToDo, ReadMore, Worked, Turned, WorkedAll, EventsAnswered};
@@ -143,7 +143,7 @@ fn read_more(file: File, state: State, input: &mut [u8]) -> State
 // Hands the first `length` bytes of the text to standard output.
 fn write_text(text: &[u8], length: usize) -> bool
     requires { ⌜ Counts length (now text) ⌝ }
-    ensures { λ r. ⌜ Handed (take length (now (text .entry))) r ⌝ }
+    ensures { λ r. ⌜ WriteTold (take length (now (text .entry))) r ⌝ }
 {
     system::write(&text[..length])
 }

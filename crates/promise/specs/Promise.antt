@@ -51,6 +51,7 @@ use Rattle.session.specs.declared.Finish as finishing
 use Rattle.session.specs.declared.Finish.the-variants as finish-cases
 use Rattle.session.specs.Begin.{fresh, Begun, sessionFor, begun, BeginGives}
 use Rattle.session.specs.Event.{Done, event, EventGives, finish, FinishGives}
+use Rattle.session.specs.Event.Laws.{event-is}
 use Rattle.session.specs.Told.{told, ended}
 use Rattle.columns.specs.Hand.{buffer, buffer-none}
 use Rattle.columns.specs.Sessions.{sessionOf}
@@ -177,7 +178,7 @@ module _ {b : List ℕ} {es : List Event} {s : Session} (o : Of b es s) where
         (record { answer = r .answer; session = r .session; out = out′ })
     event-given =
         subst (Given q (answer q es (Call.event bytes (length out))) (after q es (Call.event bytes (length out))) out)
-        (sym (g ∙ ap (λ t. event t bytes out) (o .is)))
+        (sym (event-is s bytes out r out′ g ∙ ap (λ t. event t bytes out) (o .is)))
         (event-promised q es bytes out (ruled .admitted) (ruled .most) (o .bounds))
 
     pub event-of : Of b (after q es (Call.event bytes (length out))) (r .session)
@@ -191,7 +192,7 @@ module _ {b : List ℕ} {es : List Event} {s : Session} (o : Of b es s) where
         }
 
   pub finish-given : (f : finishing.Finish) → FinishGives s f → ended f ≡ answer q es Call.finish
-  finish-given f g = ap ended (g ∙ ap finish (o .is)) ∙ finish-promised q es
+  finish-given f g = g ∙ ap (λ t. ended (finish t)) (o .is) ∙ finish-promised q es
 
   waiting-of : (t : Session) → t ≡ sessionAfter q es → take (t .counts .count) (t .node) ≡ held q (document es)
   unfolding sessionAfter

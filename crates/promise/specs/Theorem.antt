@@ -4,17 +4,19 @@
 --   Played s us rs t        the uses us of s got the replies rs and led to t: of each reply nothing is known but its entry point's promise
 --   Reached b us rs s       begin admitted the bytes b, and its session was used so: s is a session that calls reach
 --   callOf, answerOf        a use as a call of the meaning; a reply as document 01's answer (`told`, `ended`)
---   recordsIn r             the bytes of the list records at the start of the buffer that a reply left;  recordsBy a out: by an event's answer
+--   recordsIn r             the bytes of the list records at the start of the buffer that a reply left;  recordsBy a out: the same, by the answer a
 --   streamOf b us           the accepted events;  nodesOf rs: the nodes that the list records in the buffers name;  waiting s: the nodes waiting in s
 --   Begins b r              what is promised of begin's result r for the bytes b
---   Promised b us rs s      what is promised of the replies rs and of the session s; a first part of the uses is one too, so after each of them
+--   Promised b us rs s      what is promised of the replies rs and of the session s, after each of the uses (`first-part`)
 --   Offered, Answered       how the records of a block are offered and answered
 --   Block b us rs .. r out′ what is promised of a block: its result r and the buffer out′ are what single offers come to
 --   Library                 the theorem; it is proved in Theorem.Proof, by Theorem.Replies and Theorem.Blocks
 --
 -- The other words are document 01's: ListedBy, HeldBy, SelectedByNone, Selected (crate meaning, Explicit: with explicit nodes and all continuations), answers
 -- and accepted (meaning, Answer), Owed (crate query, Answer), Rising (each number once, in document order). BeginGives, EventGives, FinishGives and RunGives
--- are what `begin`, `event`, `finish` and `run` ensure. Assumes that a query's bytes are bytes. NOT promised: a session that no calls reach.
+-- are what `begin`, `event`, `finish` and `run` ensure. That refusal 7 is given where more than 128 nodes would be held is said by `answers`, which counts
+-- them by the readings (meaning, Standing); that those are the nodes HeldBy is shown in meaning, Explicit.Demands.
+-- Assumes that a query's bytes are bytes. NOT promised: a session that no calls reach.
 pub mod Replies
 pub mod Blocks
 pub mod Proof
@@ -104,7 +106,8 @@ pub record Promised (b : List ℕ) (us : List Use) (rs : List Reply) (s : Sessio
   -- the answers are the meaning's, one by one; the accepted events are a stream
   pub answered : map answerOf rs ≡ answers (decode b) [] (map callOf us)
   pub stream : Stream (streamOf b us)
-  -- the list records found in the buffers, put together, are those of the list: in document order, each node once, certain, nothing undecided before
+  -- the list records found in the buffers, put together, are those of the nodes read from them, and these are the list: in document order, each node once,
+  -- certain, nothing undecided before
   pub recorded : flatMap recordsIn rs ≡ recordsOf (nodesOf rs)
   pub order : Rising 1 (nodesOf rs)
   pub listed : (n : ℕ) → List·Memᴰ n (nodesOf rs) ↔ ListedBy (decode b) (streamOf b us) n
@@ -128,8 +131,8 @@ pub record Promised (b : List ℕ) (us : List Use) (rs : List Reply) (s : Sessio
   pub rest-same :
       (bytes out out′ : List ℕ) (r : Step) (k : ℕ) → EventGives s bytes out r out′ → r .answer ≡ Taken k → drop (4 * k) out′ ≡ drop (4 * k) out
 
--- the whole records at the start of es are offered one after the other, the first with the buffer out, each next with what the records of the lists
--- before it have left of that, and none with less than 516 bytes
+-- the whole records at the start of es are offered one after the other, the first with the buffer out, each next with the part of the buffer behind the
+-- list records so far, and none with less than 516 bytes
 pub data Offered : (es out : List ℕ) → List Use → List Reply → Type 0 where
   no-more : {es out : List ℕ} → Offered es out [] []
   one-more :
@@ -142,7 +145,8 @@ pub data Answered : (taken refusal : ℕ) → List Answer → Type 0 where
   then-refused : {n : ℕ} → 1 ≤ n → Answered 0 n (refused n ∷ [])
   one-taken : {k n : ℕ} {ns : List ℕ} {as′ : List Answer} → Answered k n as′ → Answered (suc k) n (taken ns ∷ as′)
 
--- a block on a session that calls reach: one that single offers reach, up to the first refusal, the last whole record, or less than 516 bytes of room
+-- a block on a session that calls reach: its session is one that single offers lead to, up to the first refusal, the last whole record, or less than 516
+-- bytes of room
 pub record Block (b : List ℕ) (us : List Use) (rs : List Reply) (es out : List ℕ) (r : Ran) (out′ : List ℕ) : Type 0 where
   pub offers : List Use
   pub replies : List Reply
@@ -159,7 +163,11 @@ pub record Library : Type 0 where
   pub blocks :
       {b : List ℕ} {us : List Use} {rs : List Reply} {s : Session} → Reached b us rs s →
       (es out : List ℕ) (r : Ran) (out′ : List ℕ) → RunGives s es out r out′ → Block b us rs es out r out′
-  -- every byte string as query and every sequence of uses have replies, and only these
+  -- so it is after each of the uses: a first part of them is a sequence of uses too
+  pub first-part :
+      {b : List ℕ} (us us′ : List Use) {rs : List Reply} {s : Session} → Reached b (us ++ us′) rs s →
+      (rs₁ : List Reply) × (rs₂ : List Reply) × (t : Session) × Reached b us rs₁ t × Played t us′ rs₂ s × (rs ≡ rs₁ ++ rs₂)
+  -- every byte string as query and every sequence of uses have replies, and no others
   pub some : (b : List ℕ) (us : List Use) → (r : Begun) × (rs : List Reply) × (t : Session) × BeginGives b r × Played (r .session) us rs t
   pub one :
       (b : List ℕ) (r r′ : Begun) {us : List Use} {rs rs′ : List Reply} {t t′ : Session} → BeginGives b r → BeginGives b r′ →

@@ -6,9 +6,10 @@
 --   settled s p              the answer and the session, the open or the close having come to p
 --   onOpen s x out, onClose s x out, onEvent s e out        an open of x, a close of x, any event
 --   event s bytes out        an event, by its bytes
---   EventGives s bytes out r out′       THE PROMISE of `event`: its result r and the buffer out′ on return are those
+--   toldAs a s out, toldOf d            the same with the answer in document 01's number and values (Told)
+--   EventGives s bytes out r out′       THE PROMISE of `event`: its result r and the buffer out′ on return stand for those
 --   finish s                 the nodes opened and handed out, or refusal 8
---   FinishGives s r          THE PROMISE of `finish`: its result r is that
+--   FinishGives s r          THE PROMISE of `finish`: its result r stands for that
 --
 -- Assumes nothing. NOT here: what an open and a close do to the arrays (crate act), which bytes are which event (crate meaning, Record).
 pub mod Laws
@@ -18,6 +19,7 @@ use mathlib.Core.List.{List}
 use lib.Dec.{eqb, ltb}
 use lib.ListN.{length}
 use Rattle.choice.specs.Pick.{pick}
+use Rattle.meaning.specs.Answer as meaning
 use Rattle.meaning.specs.Record.{eventOf}
 use Rattle.records.specs.declared.Event as event-read
 use Rattle.records.specs.declared.Event.the-variants.{Open, Close, Bad}
@@ -34,11 +36,24 @@ use Rattle.session.specs.declared.Answer.the-variants.{Refused, Taken}
 use Rattle.session.specs.declared.Step.{Step}
 use Rattle.session.specs.declared.Finish as finished
 use Rattle.session.specs.declared.Finish.the-variants as finishing
+use Rattle.session.specs.Told.{told, ended}
 
 pub record Done : Type 0 where
   pub answer : Answer
   pub session : Session
   pub out : List ℕ
+
+-- the same in document 01's numbers and values
+pub record ToldDone : Type 0 where
+  pub answer : meaning.Answer
+  pub session : Session
+  pub out : List ℕ
+
+abbrev pub toldAs : Answer → Session → List ℕ → ToldDone
+toldAs a s out = record { answer = told a out; session = s; out = out }
+
+abbrev pub toldOf : Done → ToldDone
+toldOf d = toldAs (d .answer) (d .session) (d .out)
 
 abbrev pub refused : ℕ → Session → List ℕ → Done
 refused n s out = record { answer = Refused n; session = s; out = out }
@@ -94,11 +109,11 @@ unfoldable pub event : Session → List ℕ → List ℕ → Done
 event s bytes out = pick (ltb (length out) 516) (refused 1 s out) (onEvent s (shown (eventOf bytes)) out)
 
 abbrev pub EventGives : Session → List ℕ → List ℕ → Step → List ℕ → Type 0
-EventGives s bytes out r out′ = record { answer = r .answer; session = r .session; out = out′ } ≡ event s bytes out
+EventGives s bytes out r out′ = toldAs (r .answer) (r .session) out′ ≡ toldOf (event s bytes out)
 
 -- "8: no document element yet, or it is still open"
 unfoldable pub finish : Session → finished.Finish
 finish s = pick (s .counts .ended) (finishing.Ended (s .counts .opened) (s .counts .handed)) (finishing.Refused 8)
 
 abbrev pub FinishGives : Session → finished.Finish → Type 0
-FinishGives s r = r ≡ finish s
+FinishGives s r = ended r ≡ ended (finish s)

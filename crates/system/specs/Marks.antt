@@ -3,7 +3,7 @@
 --   FileOpened path file     the file was opened by this path
 --   ReadGave file bytes      a call of a function of this crate gave the bytes, which came from reads of the file, end to end
 --   ReadOver file            a read of the file that had room gave nothing: the file was at its end, or the read failed
---   Handed bytes taken       the bytes were handed to standard output, and `taken` answers whether all were taken
+--   WriteTold bytes taken    the bytes were handed to standard output, and `taken` answers whether all were taken
 --   Received file bytes      the bytes are pieces, end to end, each of which a call gave
 --   Delivered bytes          the bytes are pieces, end to end, each of which was handed to standard output by a call, and taken
 --   ReadAt file at l l′ r    one read of the file into l from at on, which gave r bytes and left l′
@@ -31,8 +31,8 @@ ReadGave file bytes = bytes ≡ bytes
 pub ReadOver : File → Type 0
 ReadOver file = file ≡ file
 
-pub Handed : List ℕ → Bool → Type 0
-Handed bytes taken = bytes ≡ bytes
+pub WriteTold : List ℕ → Bool → Type 0
+WriteTold bytes taken = bytes ≡ bytes
 
 pub data Received (file : File) : List ℕ → Type 0 where
   nothing-yet : Received file []
@@ -40,7 +40,7 @@ pub data Received (file : File) : List ℕ → Type 0 where
 
 pub data Delivered : List ℕ → Type 0 where
   none-yet : Delivered []
-  delivered : {before : List ℕ} → Delivered before → (bytes : List ℕ) → Handed bytes true → Delivered (before ++ bytes)
+  delivered : {before : List ℕ} → Delivered before → (bytes : List ℕ) → WriteTold bytes true → Delivered (before ++ bytes)
 
 pub record ReadAt (file : File) (at : ℕ) (l l′ : List ℕ) (r : ℕ) : Type 0 where
   pub given : ReadGave file (take r (drop at l′))

@@ -4,7 +4,7 @@
 // comes from these functions alone (specs/Marks): these bytes were given by a read, those were handed to a write.
 ghost use Prim.Native.Nat.{_≤_};
 ghost use lib.ListN.{length};
-ghost use Rattle.system.specs.Marks.{FileOpened, Handed, ReadAt, ReadFull};
+ghost use Rattle.system.specs.Marks.{FileOpened, WriteTold, ReadAt, ReadFull};
 
 // A file that was opened for reading, by the system's number for it.
 pub struct File {
@@ -37,7 +37,7 @@ pub fn read_full(file: File, input: &mut [u8]) -> usize
 
 // Hands bytes to standard output. Answers whether all were taken.
 pub fn write(bytes: &[u8]) -> bool
-    ensures { λ r. ⌜ Handed (now (bytes .entry)) r ⌝ }
+    ensures { λ r. ⌜ WriteTold (now (bytes .entry)) r ⌝ }
 {
     io::write_all(libc::STDOUT_FILENO, bytes)
 }

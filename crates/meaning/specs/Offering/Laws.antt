@@ -95,7 +95,9 @@ module _ (q : Query) where
   offering-more (suc n) es bs more h =
       let head : take 8 (bs ++ more) ≡ take 8 bs = take-append-le 8 bs more (omega arith) in
       let tail : drop 8 (bs ++ more) ≡ drop 8 bs ++ more = drop-append-le 8 bs more (omega arith) in
-      ap₂ (λ (x y : List ℕ). unlessRefused (lowest (refusals q (document es) (event x roomNeeded))) es (offering q n (after q es (event x roomNeeded)) y)) head tail
+      ap₂
+      (λ (x y : List ℕ). unlessRefused (lowest (refusals q (document es) (event x roomNeeded))) es (offering q n (after q es (event x roomNeeded)) y))
+      head tail
       ∙ ap (unlessRefused (lowest (refusals q (document es) (first bs))) es)
       (offering-more n (after q es (first bs)) (drop 8 bs) more (omega (arith, length-drop 8 bs)))
 

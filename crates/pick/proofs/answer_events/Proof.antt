@@ -3,6 +3,7 @@ use native.Mathlib.Omega.{arith}
 use mathlib.Core.Logic.{inl, inr}
 use mathlib.Core.Path.{refl}
 use borrow.Author.Needs.{needs}
+use Rattle.session.specs.Event.Laws.{finish-is}
 use Rattle.lines.specs.PutLaws.{put-taken}
 use Rattle.pick.specs.Program.Laws.{streamed-lined}
 use Rattle.pick.proofs.answer_events.Statement.{statement}
@@ -40,9 +41,10 @@ returns c =
     let opened = c .before .before .before .before .before .before .before .before .before .before .before .before .before .before .before .before .open .ensures in
     let work = c .before .before .before .before .before .before .before .before .before .before .before .before .work-all .ensures in
     let written = c .before .before .before .before .before .before .if1 .taken in
-    let finished = c .before .before .before .before .finish .ensures in
+    let finished = c .before .before .before .before .finish in
     let line = c .before .before .last-line .ensures in
-    (inl (λ b o. streamed-lined opened (work .streamed written b o) _ finished _ _ (put-taken (line .0) (search needs))), line .1)
+    let ended = finish-is _ (finished .result) (finished .ensures) in
+    (inl (λ b o. streamed-lined opened (work .streamed written b o) _ ended _ _ (put-taken (line .0) (search needs))), line .1)
 
 same-length-2 : tie.Need-same-length-2
 same-length-2 c = search needs

@@ -38,7 +38,7 @@ use Rattle.lines.specs.Put.{Put}
 use Rattle.lines.specs.PutLaws.{put-taken}
 use Rattle.lines.specs.Text.{linesOf, endLine, refusedAtLine, refusedLine}
 use Rattle.system.specs.declared.File.{File}
-use Rattle.system.specs.Marks.{FileOpened, ReadOver, Handed, ReadFull, received, nothing-yet, Delivered, delivered, none-yet}
+use Rattle.system.specs.Marks.{FileOpened, ReadOver, WriteTold, ReadFull, received, nothing-yet, Delivered, delivered, none-yet}
 use Rattle.pick.specs.declared.State.{State}
 use Rattle.pick.specs.Line.{queryLine, finishLine, lastLine}
 use Rattle.pick.specs.State.{refusalOf, Streamed, EventsLined}
@@ -181,7 +181,7 @@ query-end l n file g room = by (ltb n (length l)) refl
 
 pub outcome-written :
     (l text : List ℕ) (n r : ℕ) (file : File) → FileOpened queryName file → ReadFull file l n → 256 < length l → (taken : Bool) →
-    Handed (take r text) taken → Replied (take n l) text r → Outcome
+    WriteTold (take r text) taken → Replied (take n l) text r → Outcome
 outcome-written l text n r file o g room true h (inl x) =
     inl
     (record {

@@ -21,7 +21,7 @@ use Rattle.lines.specs.Put.{Put}
 use Rattle.lines.specs.PutLaws.{put-taken}
 use Rattle.lines.specs.Text.{linesOf, nodesIn}
 use Rattle.system.specs.declared.File.{File}
-use Rattle.system.specs.Marks.{Handed, ReadAt}
+use Rattle.system.specs.Marks.{WriteTold, ReadAt}
 use Rattle.pick.specs.declared.State.{State}
 use Rattle.pick.specs.State.{unread, UnreadWithin, leftoverOf, ReadMore, blockOf, Worked}
 
@@ -104,7 +104,7 @@ module _ (file : File) (s : State) (input moved-down input′ : List ℕ) (r : �
 
 module _ (s : State) (input out : List ℕ) (f : Fed) (text text′ : List ℕ) (k : ℕ) (written : Bool) (w : UnreadWithin s (length input))
     (block : f ≡ blockOf s input out) (few : 8 * f .taken ≤ length (unread s input)) (put : Put text 0 (linesOf (nodesIn (f .listed) (f .out))) text′ k)
-    (fits : k ≤ length text′) (handed : Handed (take k text′) written) where
+    (fits : k ≤ length text′) (handed : WriteTold (take k text′) written) where
   past : take (s .end - (s .from + 8 * f .taken)) (drop (s .from + 8 * f .taken) input) ≡ drop (8 * f .taken) (unread s input)
   past =
       let n : s .end - (s .from + 8 * f .taken) ≡ s .end - s .from - 8 * f .taken = omega arith in
@@ -132,6 +132,6 @@ module _ (s : State) (input out : List ℕ) (f : Fed) (text text′ : List ℕ) 
         within = record { forward = omega (arith, few, part-short input (s .from) (s .end), w .forward); inside = w .inside };
         not-ended = refl;
         handed =
-            subst (λ (l : List ℕ). Handed l written)
+            subst (λ (l : List ℕ). WriteTold l written)
             (put-taken put (omega arith) ∙ ap (λ (g : Fed). linesOf (nodesIn (g .listed) (g .out))) block) handed;
       }

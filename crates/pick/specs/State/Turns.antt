@@ -33,7 +33,7 @@ use Rattle.promise.specs.Promise.{Of}
 use Rattle.lines.specs.Text.{linesOf, nodesIn}
 use Rattle.lines.specs.TextLaws.{linesOf-append}
 use Rattle.system.specs.declared.File.{File}
-use Rattle.system.specs.Marks.{ReadOver, Handed, received, nothing-yet, Delivered, delivered, none-yet}
+use Rattle.system.specs.Marks.{ReadOver, WriteTold, received, nothing-yet, Delivered, delivered, none-yet}
 use Rattle.pick.specs.declared.State.{State}
 use Rattle.pick.specs.Progress.{Progress}
 use Rattle.pick.specs.Progress.Laws.{progress-none, progress-more, progress-short, progress-all, progress-stopped, progress-same, progress-count, progress-few}
@@ -202,8 +202,8 @@ module _ {b : List ℕ} {file : File} (s : State) (input : List ℕ) (u : TurnsS
           delivered =
               λ e.
               subst Delivered (sym (linesOf-append (u .nodes) more-nodes))
-              (delivered (u .delivered (g .taking)) (linesOf more-nodes) (subst (Handed (linesOf more-nodes)) e (b′ .handed)));
-          failed = λ e. record { bytes = linesOf more-nodes; handed = subst (Handed (linesOf more-nodes)) e (b′ .handed) };
+              (delivered (u .delivered (g .taking)) (linesOf more-nodes) (subst (WriteTold (linesOf more-nodes)) e (b′ .handed)));
+          failed = λ e. record { bytes = linesOf more-nodes; handed = subst (WriteTold (linesOf more-nodes)) e (b′ .handed) };
         }
 
   pub turn-so-far : (out : List ℕ) (s′ : State) (input′ : List ℕ) → Turned file s input out s′ input′ → TurnsSoFar b file s′ input′
@@ -269,7 +269,8 @@ module _ {b : List ℕ} {file : File} (s : State) (input : List ℕ) (u : TurnsS
 
 -- after the last turn
 
-pub turn-within : {file : File} (s : State) (input out : List ℕ) (s′ : State) (input′ : List ℕ) → Turned file s input out s′ input′ → UnreadWithin s′ (length input′)
+pub turn-within :
+    {file : File} (s : State) (input out : List ℕ) (s′ : State) (input′ : List ℕ) → Turned file s input out s′ input′ → UnreadWithin s′ (length input′)
 turn-within s input out s′ input′ (worked many same x) = subst (λ (i : List ℕ). UnreadWithin s′ (length i)) (sym same) (x .within)
 turn-within s input out s′ input′ (read few m) = m .within
 
@@ -312,7 +313,9 @@ module _ {b : List ℕ} {file : File} {s : State} {input : List ℕ} (u : TurnsS
       streamed-as _ (progress-all (u .offered) (eqb-true _ _ z) (u .over e (eqb-true _ _ z))) refl
       (refusal-none (s .refusal) (eqb-true _ _ z)) (inl (u .at-end e)) t)
       (λ e h. never (sym h ∙ t)))
-      (λ z h. streamed-as _ (progress-stopped (u .offered) (eqb-false _ _ z)) refl (refusal-some (s .refusal) (eqb-false _ _ z)) (stopped-end (s .ended) refl (eqb-false _ _ z)) t)
+      (λ z h.
+      streamed-as _ (progress-stopped (u .offered) (eqb-false _ _ z)) refl (refusal-some (s .refusal) (eqb-false _ _ z))
+      (stopped-end (s .ended) refl (eqb-false _ _ z)) t)
       stop
     where
       refusal-none : (r : ℕ) → r ≡ 0 → none ≡ refusalOf r

@@ -2,7 +2,7 @@
 --
 --   Singly s n es out f     f is what single offers of the first n records of es come to, from the session s and with the buffer out
 --   fed-singly              what blocks promises is that, on a session that calls reach
---   played-append           one play after another
+--   played-append           one play after another;  first-part: a first part of a play
 --   block                   THE BLOCK is as promised
 --
 -- Assumes nothing.
@@ -27,6 +27,7 @@ use Rattle.session.specs.declared.Step.{Step}
 use Rattle.session.specs.declared.Answer.{Answer}
 use Rattle.session.specs.declared.Answer.the-variants.{Refused, Taken}
 use Rattle.session.specs.Event.{Done, event, EventGives}
+use Rattle.session.specs.Event.Laws.{event-is}
 use Rattle.session.specs.Told.{told}
 use Rattle.blocks.specs.declared.Ran.{Ran}
 use Rattle.blocks.specs.Fed.{Fed, none, one, oneOf, andThen, follow, fed, RunGives, Single}
@@ -148,7 +149,9 @@ module _ (n : ℕ) {b : List ℕ} (rest : (fs : List Event) (t : Session) → Of
   unfolding follow
   one-singly (Refused x) t out′ g =
       refused-singly o n es out (omega arith) wide t out′ x g
-      (refused-some x t out′ (subst (λ (d : Done). Single (oneOf d)) (sym g) (event-single s (take 8 es) out)))
+      (refused-some x t out′
+      (subst (λ (d : Done). Single (oneOf d)) (sym (event-is s (take 8 es) out (record { answer = Refused x; session = t }) out′ g))
+      (event-single s (take 8 es) out)))
   one-singly (Taken k) t out′ g =
       taken-singly o n es out (omega arith) wide t out′ k g (fed n t (drop 8 es) (drop (4 * k) out′))
       (rest _ t (event-of o (take 8 es) out (record { answer = Taken k; session = t }) out′ g) (drop 8 es) (drop (4 * k) out′)
@@ -168,6 +171,28 @@ pub played-append :
 played-append unused q = q
 played-append (by-event g p) q = by-event g (played-append p q)
 played-append (by-finish g p) q = by-finish g (played-append p q)
+
+played-split :
+    (us us′ : List Use) {rs : List Reply} {s u : Session} → Played s (us ++ us′) rs u →
+    (rs₁ : List Reply) × (rs₂ : List Reply) × (t : Session) × Played s us rs₁ t × Played t us′ rs₂ u × (rs ≡ rs₁ ++ rs₂)
+played-split [] us′ {rs} {s} p = ([], rs, s, unused, p, refl)
+played-split (u ∷ us) us′ (by-event {out′ = out′} {r = r} g p) =
+    let x = played-split us us′ p in (stepped r out′ ∷ x .0, x .1, x .2, by-event g (x .3), x .4, ap (λ (l : List Reply). stepped r out′ ∷ l) (x .5))
+played-split (u ∷ us) us′ (by-finish {f = f} g p) =
+    let x = played-split us us′ p in (theorem.finish f ∷ x .0, x .1, x .2, by-finish g (x .3), x .4, ap (λ (l : List Reply). theorem.finish f ∷ l) (x .5))
+
+pub first-part :
+    {b : List ℕ} (us us′ : List Use) {rs : List Reply} {s : Session} → Reached b (us ++ us′) rs s →
+    (rs₁ : List Reply) × (rs₂ : List Reply) × (t : Session) × Reached b us rs₁ t × Played t us′ rs₂ s × (rs ≡ rs₁ ++ rs₂)
+first-part us us′ x =
+    let p = played-split us us′ (x .played) in (
+      p .0,
+      p .1,
+      p .2,
+      record { bytes = x .bytes; begun = x .begun; begins = x .begins; admitted = x .admitted; played = p .3 },
+      p .4,
+      p .5,
+    )
 
 pub block :
     {b : List ℕ} {us : List Use} {rs : List Reply} {s : Session} → Reached b us rs s →

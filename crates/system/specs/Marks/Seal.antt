@@ -8,7 +8,7 @@ use mathlib.Core.Path.{refl}
 use mathlib.Core.Bool.{Bool}
 use mathlib.Core.List.{List}
 use Rattle.system.specs.declared.File.{File}
-use Rattle.system.specs.Marks.{FileOpened, ReadGave, ReadOver, Handed}
+use Rattle.system.specs.Marks.{FileOpened, ReadGave, ReadOver, WriteTold}
 
 pub opened : (path : List ℕ) (file : File) → FileOpened path file
 unfolding FileOpened
@@ -22,6 +22,6 @@ pub over : (file : File) → ReadOver file
 unfolding ReadOver
 over file = refl
 
-pub handed : (bytes : List ℕ) (taken : Bool) → Handed bytes taken
-unfolding Handed
+pub handed : (bytes : List ℕ) (taken : Bool) → WriteTold bytes taken
+unfolding WriteTold
 handed bytes taken = refl

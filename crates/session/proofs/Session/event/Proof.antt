@@ -1,15 +1,13 @@
-use Rattle.session.specs.Event.{onEvent, event}
-use Rattle.choice.specs.Pick.{pick-yes, pick-no}
-use borrow.Author.Tests.{lt-ltb, le-ltb}
-use denote.Ref.{now}
-use mathlib.Core.Path.{_≡_, refl, sym, ap, _∙_}
+-- `Session::event` meets its contract. Assumes nothing.
+use mathlib.Core.Path.{refl, sym, _∙_}
 use borrow.Author.Needs.{needs}
+use Rattle.session.specs.Event.{onEvent}
+use Rattle.session.specs.Event.Laws.{event-short, event-read-as}
 use Rattle.session.proofs.Session.event.Statement.{statement}
 use Rattle.session.proofs.Session.event.Tie as tie
 
 returns : tie.Need-returns
-unfolding event
-returns c = pick-yes _ _ _ _ (lt-ltb _ _ (c .if1 .taken)) refl
+returns c = let a = c .before .before .before .args in event-short (a .self) (a .bytes .now) (a .out .now) (c .if1 .taken)
 
 read-event-requires : tie.Need-read-event-requires
 read-event-requires c κs = search needs
@@ -33,22 +31,34 @@ same-length : tie.Need-same-length
 same-length c = search needs
 
 returns-2 : tie.Need-returns-2
-unfolding event onEvent
-returns-2 c = let a = c .before .before .before .before .before .before .before .before .before .before .before .args in
-    pick-no _ _ _ _ (le-ltb _ _ (c .before .before .before .before .before .before .before .before .if1 .left)) (c .before .before .on-open .ensures ∙ ap (λ e. onEvent (a .self) e (a .out .now)) (sym (c .before .before .before .before .before .event .given .1) ∙ c .before .before .before .before .before .before .before .read-event .ensures))
+unfolding onEvent
+returns-2 c =
+    let a = c .before .before .before .before .before .before .before .before .before .before .before .args in
+    let read = c .before .before .before .before .before .before .before .read-event .ensures in
+    let wide = c .before .before .before .before .before .before .before .before .if1 .left in
+    let known = c .before .before .before .before .before .event .given .1 in
+    event-read-as (a .self) (a .bytes .now) (a .out .now) _ _ wide (sym read ∙ known) (c .before .before .on-open .ensures)
 
 same-length-2 : tie.Need-same-length-2
 same-length-2 c = search needs
 
 returns-3 : tie.Need-returns-3
-unfolding event onEvent
-returns-3 c = let a = c .before .before .before .before .before .before .before .before .before .before .before .args in
-    pick-no _ _ _ _ (le-ltb _ _ (c .before .before .before .before .before .before .before .before .if1 .left)) (c .before .before .on-close .ensures ∙ ap (λ e. onEvent (a .self) e (a .out .now)) (sym (c .before .before .before .before .before .event2 .given .1) ∙ c .before .before .before .before .before .before .before .read-event .ensures))
+unfolding onEvent
+returns-3 c =
+    let a = c .before .before .before .before .before .before .before .before .before .before .before .args in
+    let read = c .before .before .before .before .before .before .before .read-event .ensures in
+    let wide = c .before .before .before .before .before .before .before .before .if1 .left in
+    let known = c .before .before .before .before .before .event2 .given .1 in
+    event-read-as (a .self) (a .bytes .now) (a .out .now) _ _ wide (sym read ∙ known) (c .before .before .on-close .ensures)
 
 returns-4 : tie.Need-returns-4
-unfolding event onEvent
-returns-4 c = let a = c .before .before .before .before .before .before .args in
-    pick-no _ _ _ _ (le-ltb _ _ (c .before .before .before .if1 .left)) (ap (λ e. onEvent (a .self) e (a .out .now)) (sym (c .enum-told .given .1) ∙ c .before .before .read-event .ensures))
+unfolding onEvent
+returns-4 c =
+    let a = c .before .before .before .before .before .before .args in
+    let read = c .before .before .read-event .ensures in
+    let wide = c .before .before .before .if1 .left in
+    let known = c .enum-told .given .1 in
+    event-read-as (a .self) (a .bytes .now) (a .out .now) _ _ wide (sym read ∙ known) refl
 
 pub event-spec : {M : Type 1} → statement M
 event-spec =
