@@ -1,8 +1,8 @@
 -- The records of some bytes, offered one after the other to a session, in the words of the meaning.
 --
---   Progress b es bs s taken refusal nodes      after the query bytes b and the accepted events es the records of bs were offered up to the first refusal or
---                                              up to some record: `taken` of them were accepted and have listed `nodes`, they have led to the session s, and
---                                              the next one was refused with the number `refusal`; 0 where none was
+--   Progress b es bs s taken refusal nodes     after the query bytes b and the accepted events es, records of bs were offered, up to the first refusal or fewer:
+--                                             `taken` of them were accepted, have listed `nodes` and led to the session s; the next one was refused with the number
+--                                             `refusal`, or none was and it is 0
 --
 -- Assumes nothing. NOT here: what offering records comes to (crate meaning, Offering), what a block of events is (crate blocks, Fed).
 pub mod Laws

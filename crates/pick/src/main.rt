@@ -36,13 +36,13 @@ struct State {
 }
 
 // What the events of a block gave, and how many bytes of text.
-struct Block {
+struct BlockText {
     ran: Ran,
     length: usize,
 }
 
 // Offers the events one after the other, and puts the lines of what they hand out.
-fn work(session: Session, events: &[u8], out: &mut [u8], text: &mut [u8]) -> Block
+fn work(session: Session, events: &[u8], out: &mut [u8], text: &mut [u8]) -> BlockText
     requires { ⌜ 11 * length (now out) ≤ 4 * length (now text) ⌝ }
     ensures { λ r. ⌜ Put (now (text .entry)) 0 (linesOf (nodesIn (r .ran .listed) (now (out .exit)))) (now (text .exit)) (r .length) ⌝ }
     ensures { λ r. ⌜ Counts (r .length) (now (text .exit)) ⌝ }
@@ -51,7 +51,7 @@ fn work(session: Session, events: &[u8], out: &mut [u8], text: &mut [u8]) -> Blo
 {
     let ran = blocks::run(session, events, out);
     let length = lines::put_lines(&*out, ran.listed, text);
-    Block { ran, length }
+    BlockText { ran, length }
 }
 
 // Moves the `left` bytes from `from` on to the start.
