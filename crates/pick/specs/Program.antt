@@ -6,8 +6,8 @@
 --                       answer to the query
 --   Failed              standard output did not take all that was handed to it
 --   queryName, eventsName     the files' names
---   Read name bytes Same      a file of this name was opened, and reads of it gave the bytes, up to its end or so far that whatever may follow changes
---                             nothing: Same (bytes ++ more) for each more.  QueryRead, EventsRead q: what must not change
+--   Read name bytes Same      a file of this name was opened and closed, and reads of it gave the bytes, up to its end or so far that whatever may
+--                             follow changes nothing: Same (bytes ++ more) for each more.  QueryRead, EventsRead q: what must not change
 --   Lined query text r        what is owed for the query is delivered but for what stands in the first r bytes of the text
 --   Replied query text r      Lined; or Failed, and then no text is left to be written
 --   Completed           the files were read, and what is owed for the bytes that the reads gave was handed to standard output, piece by piece, and taken
@@ -33,7 +33,7 @@ use Rattle.query.specs.Answer.{Answer, admitted, refused, refusedAt, answerTo}
 use Rattle.query.specs.Decode.{decode}
 use Rattle.lines.specs.Text.{linesOf, endLine, refusedAtLine, refusedLine}
 use Rattle.system.specs.declared.File.{File}
-use Rattle.system.specs.Marks.{FileOpened, ReadOver, WriteTold, Received, Delivered}
+use Rattle.system.specs.Marks.{FileOpened, FileClosed, ReadOver, WriteTold, Received, Delivered}
 
 -- "`end N` with the number handed out"; "for refusal 8 the number of accepted events"
 unfoldable pub finishLineOf : Query → List Event → List ℕ
@@ -75,6 +75,7 @@ pub record Read (name bytes : List ℕ) (Same : List ℕ → Type 0) : Type 0 wh
   pub file : File
   pub opened : FileOpened name file
   pub received : Received file bytes
+  pub closed : FileClosed file
   pub to-end : ReadOver file ⊎ ((more : List ℕ) → Same (bytes ++ more))
 
 abbrev pub QueryRead : List ℕ → Type 0

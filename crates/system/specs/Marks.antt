@@ -1,6 +1,7 @@
 -- What a call of the system leaves behind for a contract to speak of.
 --
 --   FileOpened path file     the file was opened by this path
+--   FileClosed file          it was closed
 --   ReadGave file bytes      a call of a function of this crate gave the bytes, which came from reads of the file, end to end
 --   ReadOver file            a read of the file that had room gave nothing: the file was at its end, or the read failed
 --   WriteTold bytes taken    the bytes were handed to standard output, and `taken` answers whether all were taken
@@ -9,7 +10,7 @@
 --   ReadAt file at l l′ r    one read of the file into l from at on, which gave r bytes and left l′
 --   ReadFull file l r        reads of the file into l from its start on, which gave r bytes
 --
--- The first four are marks: what they stand for is not said to any other module, and only Marks.Seal makes them. That module is for the proofs of this
+-- The first five are marks: what they stand for is not said to any other module, and only Marks.Seal makes them. That module is for the proofs of this
 -- crate's functions alone (tests/marks/run holds every other file to it), so a function that claims a mark has called a function that gives it. That the
 -- functions of this crate make the call that their mark stands for is read in src/lib.rt, not proved. A mark says that a call was made: not how often, in
 -- which order, or what other calls were made. Assumes nothing. NOT here: what a file has in it, which nothing can say.
@@ -24,6 +25,9 @@ use Rattle.system.specs.declared.File.{File}
 
 pub FileOpened : List ℕ → File → Type 0
 FileOpened path file = file ≡ file
+
+pub FileClosed : File → Type 0
+FileClosed file = file ≡ file
 
 pub ReadGave : File → List ℕ → Type 0
 ReadGave file bytes = bytes ≡ bytes

@@ -1,10 +1,10 @@
 // The system as a program meets it: a file opened, bytes read, bytes written.
 //
-// No contract can say which bytes a read gives, or what becomes of bytes that are written. So each call here but `close` leaves a mark in its contract, which
+// No contract can say which bytes a read gives, or what becomes of bytes that are written. So each call here leaves a mark in its contract, which
 // comes from these functions alone (specs/Marks): these bytes were given by a read, those were handed to a write.
 ghost use Prim.Native.Nat.{_≤_};
 ghost use lib.ListN.{length};
-ghost use Rattle.system.specs.Marks.{FileOpened, WriteTold, ReadAt, ReadFull};
+ghost use Rattle.system.specs.Marks.{FileOpened, FileClosed, WriteTold, ReadAt, ReadFull};
 
 // A file that was opened for reading, by the system's number for it.
 pub struct File {
@@ -42,6 +42,9 @@ pub fn write(bytes: &[u8]) -> bool
     io::write_all(libc::STDOUT_FILENO, bytes)
 }
 
-pub fn close(file: File) {
+// Closes a file. Nothing more is read of it.
+pub fn close(file: File)
+    ensures { λ _. ⌜ FileClosed file ⌝ }
+{
     libc::close(file.number);
 }

@@ -11,7 +11,7 @@
 --   underway-done, underway-advanced       where no event is looked at any more
 --
 -- What is large is given explicitly. Assumes nothing.
-use Prim.Native.Nat.{ℕ, zero, suc, _+_, _-_, _*_, _/_, _≤_, _<_}
+use Prim.Native.Nat.{ℕ, _+_, _-_, _*_, _/_, _≤_, _<_}
 use native.Mathlib.Omega.{arith}
 use mathlib.Core.Path.{_≡_, refl, sym, ap, ap₂, subst⁻¹, _∙_}
 use mathlib.Core.Bool.{Bool, true, false}
@@ -21,8 +21,8 @@ use lib.Dec.{eqb, leb}
 use lib.ListN.{length, take, drop, length-append, length-drop, drop-of-length-le}
 use lib.Seq.{length-take-le, take-all}
 use borrow.Author.Tests.{eqb-true, eqb-false, leb-true, leb-false, eq-eqb, ne-eqb, le-leb, lt-leb}
-use Rattle.choice.specs.Pick.{pick-true, pick-false, pick-known}
-use Rattle.choice.specs.Count.{boolByte-le}
+use Rattle.choice.specs.Pick.{pick-true, pick-false, pick-known, never}
+use Rattle.choice.specs.Count.{positive, boolByte-le}
 use Rattle.plan.specs.Planned.{sizeOf}
 use Rattle.session.specs.declared.Session.{Session}
 use Rattle.session.specs.Event.{Done, framesIn, queueIn, whole, event}
@@ -30,13 +30,6 @@ use Rattle.blocks.specs.Step.{Stood, step}
 use Rattle.blocks.specs.Step.Laws.{stoodAs, event-single, step-event}
 use Rattle.blocks.specs.Fed.{Fed, none, oneOf, andThen, fed, resumed, Single, Underway, Advanced, goesOn, Goes, stepsOn, Steps, recordAt, restOf, givenBack}
 use Rattle.blocks.specs.Fed.Laws.{resumed-none, resumed-one, resumed-part, resumed-turn, resumed-stopped}
-
-never : {A : Type 0} → _≡_ {A = Bool} false true → A
-never h = let z : _≡_ {A = ℕ} 0 1 = ap boolByte h in absurd (omega arith)
-
-positive : (n : ℕ) → (n ≡ 0 → ⊥) → 0 < n
-positive zero f = absurd (f refl)
-positive (suc n) f = omega arith
 
 -- whether another event is looked at
 

@@ -39,12 +39,13 @@ same-length c = search needs
 returns : tie.Need-returns
 returns c =
     let opened = c .before .before .before .before .before .before .before .before .before .before .before .before .before .before .before .before .open .ensures in
+    let closed = c .before .before .before .before .before .before .before .close .ensures in
     let work = c .before .before .before .before .before .before .before .before .before .before .before .before .work-all .ensures in
     let written = c .before .before .before .before .before .before .if1 .taken in
     let finished = c .before .before .before .before .finish in
     let line = c .before .before .last-line .ensures in
     let ended = finish-is _ (finished .result) (finished .ensures) in
-    (inl (λ b o. streamed-lined opened (work .streamed written b o) _ ended _ _ (put-taken (line .0) (search needs))), line .1)
+    (inl (λ b o. streamed-lined opened closed (work .streamed written b o) _ ended _ _ (put-taken (line .0) (search needs))), line .1)
 
 same-length-2 : tie.Need-same-length-2
 same-length-2 c = search needs

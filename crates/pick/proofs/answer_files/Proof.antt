@@ -41,8 +41,9 @@ returns : tie.Need-returns
 returns c =
     let opened = c .before .before .before .before .before .before .before .before .before .before .open .ensures in
     let read = c .before .before .before .before .before .before .before .before .read-full .ensures in
+    let closed = c .before .before .before .before .before .before .close .ensures in
     let answered = c .before .before .before .answer .ensures in
-    outcome-written _ _ _ _ _ opened read (search needs) _ (c .write-text .ensures) (answered .0)
+    outcome-written _ _ _ _ _ opened closed read (search needs) _ (c .write-text .ensures) (answered .0)
 
 pub answer-files-spec : {M : Type 1} → statement M
 answer-files-spec =

@@ -38,7 +38,7 @@ use Rattle.lines.specs.Put.{Put}
 use Rattle.lines.specs.PutLaws.{put-taken}
 use Rattle.lines.specs.Text.{linesOf, endLine, refusedAtLine, refusedLine}
 use Rattle.system.specs.declared.File.{File}
-use Rattle.system.specs.Marks.{FileOpened, ReadOver, WriteTold, ReadFull, received, nothing-yet, Delivered, delivered, none-yet}
+use Rattle.system.specs.Marks.{FileOpened, FileClosed, ReadOver, WriteTold, ReadFull, received, nothing-yet, Delivered, delivered, none-yet}
 use Rattle.pick.specs.declared.State.{State}
 use Rattle.pick.specs.Line.{queryLine, finishLine, lastLine}
 use Rattle.pick.specs.State.{refusalOf, Streamed, EventsLined}
@@ -71,12 +71,12 @@ last-line-owed o f e taken (suc r) t =
 
 -- the last line for a stream that was worked on whole
 pub streamed-lined :
-    {b : List ℕ} {file : File} {s : State} → FileOpened eventsName file → Streamed b file s → (f : Finish) → f ≡ finish (s .session) →
+    {b : List ℕ} {file : File} {s : State} → FileOpened eventsName file → FileClosed file → Streamed b file s → (f : Finish) → f ≡ finish (s .session) →
     (text : List ℕ) (r : ℕ) → take r text ≡ lastLine f (s .taken) (s .refusal) → EventsLined b text r
-streamed-lined {b} {file} {s} op st f e text r line =
+streamed-lined {b} {file} {s} op cl st f e text r line =
     record {
       bytes = st .bytes;
-      events-read = record { file = file; opened = op; received = st .received; to-end = st .to-end };
+      events-read = record { file = file; opened = op; received = st .received; closed = cl; to-end = st .to-end };
       delivered = st .delivered;
       line =
           line
@@ -180,17 +180,23 @@ query-end l n file g room = by (ltb n (length l)) refl
 -- the end
 
 pub outcome-written :
-    (l text : List ℕ) (n r : ℕ) (file : File) → FileOpened queryName file → ReadFull file l n → 256 < length l → (taken : Bool) →
+    (l text : List ℕ) (n r : ℕ) (file : File) → FileOpened queryName file → FileClosed file → ReadFull file l n → 256 < length l → (taken : Bool) →
     WriteTold (take r text) taken → Replied (take n l) text r → Outcome
-outcome-written l text n r file o g room true h (inl x) =
+outcome-written l text n r file o cl g room true h (inl x) =
     inl
     (record {
       query = take n l;
       events = x .events;
       query-read =
-          record { file = file; opened = o; received = received nothing-yet (take n l) (g .given); to-end = query-end l n file g room };
+          record {
+            file = file;
+            opened = o;
+            received = received nothing-yet (take n l) (g .given);
+            closed = cl;
+            to-end = query-end l n file g room;
+          };
       events-read = x .events-read;
       delivered = subst Delivered (x .owed-so) (delivered (x .delivered) (take r text) h);
     })
-outcome-written l text n r file o g room false h (inl x) = inr (record { bytes = take r text; handed = h })
-outcome-written l text n r file o g room taken h (inr f) = inr (f .0)
+outcome-written l text n r file o cl g room false h (inl x) = inr (record { bytes = take r text; handed = h })
+outcome-written l text n r file o cl g room taken h (inr f) = inr (f .0)

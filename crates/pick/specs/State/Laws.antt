@@ -11,11 +11,10 @@ use native.Mathlib.Omega.{arith}
 use mathlib.Core.Path.{_≡_, refl, sym, ap, ap₂, _∙_, subst}
 use mathlib.Core.Bool.{Bool, true, false}
 use mathlib.Core.List.{List, [], _∷_, _++_}
-use mir.Val.{boolByte}
-use lib.ListN.{length, take, drop, take-append-drop, length-take, length-drop}
-use lib.Seq.{take-append-add, drop-drop, length-take-le, length-sets}
+use lib.ListN.{length, take, drop, length-take, length-drop}
+use lib.Seq.{take-add, drop-drop, length-take-le, length-sets}
 use borrow.Author.Tests.{eq-eqb, ne-eqb}
-use Rattle.choice.specs.Pick.{pick-yes, pick-no}
+use Rattle.choice.specs.Pick.{pick-yes, pick-no, never}
 use Rattle.blocks.specs.Fed.{Fed}
 use Rattle.lines.specs.Put.{Put}
 use Rattle.lines.specs.PutLaws.{put-taken}
@@ -24,11 +23,6 @@ use Rattle.system.specs.declared.File.{File}
 use Rattle.system.specs.Marks.{WriteTold, ReadAt}
 use Rattle.pick.specs.declared.State.{State}
 use Rattle.pick.specs.State.{unread, UnreadWithin, leftoverOf, ReadMore, blockOf, Worked}
-
-take-add : (l : List ℕ) (a n : ℕ) → a ≤ length l → take (a + n) l ≡ take a l ++ take n (drop a l)
-take-add l a n h =
-    let e : length (take a l) ≡ a = length-take-le a l h in
-    ap₂ (λ (k : ℕ) (x : List ℕ). take (k + n) x) (sym e) (sym (take-append-drop a l)) ∙ take-append-add (take a l) (drop a l) n
 
 drop-take : (k n : ℕ) (l : List ℕ) → drop k (take n l) ≡ take (n - k) (drop k l)
 drop-take zero n l = ap (λ (m : ℕ). take m l) (sym (sub-zero n))
@@ -61,7 +55,7 @@ module _ (file : File) (s : State) (input moved-down input′ : List ℕ) (r : �
   behind : take (left + r - 0) input′ ≡ unread s input ++ bytes
   behind =
       ap (λ (k : ℕ). take k input′) (sub-zero (left + r))
-      ∙ take-add input′ left r (omega (arith, got .within))
+      ∙ take-add left r input′
       ∙ ap (λ (x : List ℕ). x ++ bytes) (got .kept ∙ put-taken moved (omega (arith, w .inside)))
 
   pub read-nothing :
@@ -97,7 +91,7 @@ module _ (file : File) (s : State) (input moved-down input′ : List ℕ) (r : �
         written-same = refl;
         ended-so = sym (ne-eqb (length bytes) 0 (λ e. z (sym so-many ∙ e)));
         refused-so = pick-no false 0 (leftoverOf left) 0 refl refl;
-        over = λ t. let z : _≡_ {A = ℕ} 0 1 = ap boolByte t in absurd (omega arith);
+        over = λ t. never t;
       }
 
 -- a block of events

@@ -20,8 +20,8 @@ use lib.Dec.{eqb}
 use lib.ListN.{length, drop, length-append, length-drop}
 use lib.Seq.{drop-drop, drop-append-le, length-take-le}
 use borrow.Author.Tests.{eqb-true, eqb-false}
-use Rattle.choice.specs.Pick.{pick, pick-true, pick-false, pick-known}
-use Rattle.choice.specs.Count.{boolByte-le}
+use Rattle.choice.specs.Pick.{pick, pick-true, pick-false, pick-known, never}
+use Rattle.choice.specs.Count.{positive, boolByte-le}
 use Rattle.meaning.specs.Query.{Query}
 use Rattle.meaning.specs.Stream.{Event, run, document}
 use Rattle.meaning.specs.Selection.{marksRow, marks, selections}
@@ -39,13 +39,6 @@ use Rattle.pick.specs.Progress.{Progress}
 use Rattle.pick.specs.Progress.Laws.{progress-none, progress-more, progress-short, progress-all, progress-stopped, progress-same, progress-count, progress-few}
 use Rattle.pick.specs.Progress.Block.{BlockProgress, fed-progress, then-fed}
 use Rattle.pick.specs.State.{unread, UnreadWithin, leftoverOf, refusalOf, moreToDo, ReadMore, blockOf, Worked, Turned, worked, read, TurnsSoFar, Streamed}
-
-never : {A : Type 0} → _≡_ {A = Bool} false true → A
-never h = let z : _≡_ {A = ℕ} 0 1 = ap boolByte h in absurd (omega arith)
-
-positive : (n : ℕ) → (n ≡ 0 → ⊥) → 0 < n
-positive zero f = absurd (f refl)
-positive (suc n) f = omega arith
 
 -- nothing is listed before the first event
 listed-none : (q : Query) → listed q (document []) ≡ []
@@ -239,9 +232,6 @@ module _ {b : List ℕ} {file : File} (s : State) (input : List ℕ) (u : TurnsS
       measure L s′ input < measure L s input
   work-less L out s′ long many room x = by (eqb (s′ .refusal) 0) refl
     where
-      k : ℕ
-      k = blockOf s input out .taken
-
       left : length (unread s′ input) ≡ length (unread s input) - 8 * blockOf s input out .taken
       left = ap length (x .left) ∙ length-drop (8 * blockOf s input out .taken) (unread s input)
 

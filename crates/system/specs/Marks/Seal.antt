@@ -1,6 +1,6 @@
 -- The marks, made: for the proofs of this crate's functions and for no other.
 --
---   opened, gave, over, handed      a call of the system has been made
+--   opened, closed, gave, over, handed      a call of the system has been made
 --
 -- Assumes nothing.
 use Prim.Native.Nat.{ℕ}
@@ -8,11 +8,15 @@ use mathlib.Core.Path.{refl}
 use mathlib.Core.Bool.{Bool}
 use mathlib.Core.List.{List}
 use Rattle.system.specs.declared.File.{File}
-use Rattle.system.specs.Marks.{FileOpened, ReadGave, ReadOver, WriteTold}
+use Rattle.system.specs.Marks.{FileOpened, FileClosed, ReadGave, ReadOver, WriteTold}
 
 pub opened : (path : List ℕ) (file : File) → FileOpened path file
 unfolding FileOpened
 opened path file = refl
+
+pub closed : (file : File) → FileClosed file
+unfolding FileClosed
+closed file = refl
 
 pub gave : (file : File) (bytes : List ℕ) → ReadGave file bytes
 unfolding ReadGave
