@@ -1,0 +1,83 @@
+-- The laws of records (crate words, Records) for those of the waiting nodes.
+--
+--   whole             the shape is one that the laws of records speak of
+--   room-is           how many bytes the records take, as a number
+--   get-is, put-is    a number read is a field read, a number written a field written
+--   write-parts       the writes of one call together
+--   nodes-length      how many records there are
+--   nodes-same        bytes with the same records are the same
+--
+-- Assumes nothing.
+use Prim.Native.Nat.{ℕ, zero, suc, _+_, _*_, _<_}
+use native.Mathlib.Omega.{arith}
+use mathlib.Core.Path.{_≡_, refl, ap, _∙_}
+use mathlib.Core.List.{List}
+use lib.ListN.{length, getD, set}
+use Rattle.choice.specs.Pick.{pick}
+use Rattle.engine.specs.Quick.{Waiting}
+use Rattle.words.specs.Words.{words, Bytes}
+use Rattle.words.specs.Records.{setAt, room, withField, putAt, recordsIn, laid}
+use Rattle.words.specs.Records.Laws as records
+use Rattle.words.specs.Records.Laws.{Whole}
+use Rattle.node.specs.Node.{mostHeld, waitingOf, fieldOf, shape, nodesRoom, Nodes, nodesIn, nodeAt, wroteIn}
+
+same-node : (r s : ℕ → ℕ) → r 0 ≡ s 0 → r 1 ≡ s 1 → r 2 ≡ s 2 → waitingOf r ≡ waitingOf s
+same-node r s e₀ e₁ e₂ = cc
+
+read : (r : ℕ → ℕ) (g : ℕ) → g < 3 → fieldOf g (waitingOf r) ≡ r g
+read r zero h = refl
+read r (suc zero) h = refl
+read r (suc (suc zero)) h = refl
+read r (suc (suc (suc g))) h = absurd (omega arith)
+
+pub whole : Whole shape
+whole =
+    record {
+      some = omega arith;
+      fits = omega arith;
+      made = λ r s e. same-node r s (e 0 (omega arith)) (e 1 (omega arith)) (e 2 (omega arith));
+      read = read;
+    }
+
+pub room-is : nodesRoom ≡ 32 * mostHeld
+unfolding nodesRoom room
+room-is = omega arith
+
+pub nodes-length : (bs : List ℕ) → length (nodesIn bs .list) ≡ mostHeld
+unfolding nodesIn
+nodes-length bs = records.list-length shape whole bs
+
+pub get-is :
+    (bs : List ℕ) (i g r : ℕ) → i < mostHeld → g < 3 → r ≡ getD (words bs) (8 * i + g) 0 → r ≡ fieldOf g (nodeAt (nodesIn bs) i)
+unfolding nodesIn
+get-is bs i g r hi hg e = records.get-is shape whole bs i g r hi hg e
+
+pub put-is :
+    (bs bs′ : List ℕ) (i g v : ℕ) → length bs ≡ nodesRoom → i < mostHeld → g < 3 → words bs′ ≡ set (words bs) (8 * i + g) v →
+    nodesIn bs′ ≡ putAt shape i g v (nodesIn bs)
+unfolding nodesIn nodesRoom
+put-is bs bs′ i g v long hi hg e = records.put-is shape whole bs bs′ i g v long hi hg e
+
+module _ (bs : List ℕ) (i : ℕ) (h : i < mostHeld) where
+  abbrev N : Nodes
+  N = nodesIn bs
+
+  again : (w : Waiting) (g : Waiting → Waiting) (N₁ N₂ : Nodes) → N₁ ≡ setAt i w N → N₂ ≡ setAt i (g (nodeAt N₁ i)) N₁ → N₂ ≡ setAt i (g w) N
+  again = records.again shape whole i N (omega (arith, nodes-length bs))
+
+  pub write-parts :
+      (node level need : ℕ) (N₁ N₂ N₃ : Nodes) → N₁ ≡ putAt shape i 0 node N → N₂ ≡ putAt shape i 1 level N₁ → N₃ ≡ putAt shape i 2 need N₂ →
+      N₃ ≡ wroteIn i node level need N
+  unfolding putAt wroteIn
+  write-parts node level need N₁ N₂ N₃ e₁ e₂ e₃ =
+      let s₂ = again _ (withField shape 1 level) N₁ N₂ e₁ e₂ in
+      again _ (withField shape 2 need) N₂ N₃ s₂ e₃ ∙ ap (λ w. setAt i w N) (unfold pick in refl)
+
+pub nodes-laid : (bs : List ℕ) → length bs ≡ nodesRoom → Bytes bs → laid shape (nodesIn bs) ≡ bs
+unfolding nodesIn nodesRoom
+nodes-laid = records.records-laid shape whole
+
+pub nodes-same :
+    (bs cs : List ℕ) → length bs ≡ nodesRoom → length cs ≡ nodesRoom → Bytes bs → Bytes cs → nodesIn bs ≡ nodesIn cs → bs ≡ cs
+unfolding nodesIn nodesRoom
+nodes-same = records.records-same shape whole

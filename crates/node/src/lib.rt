@@ -1,0 +1,41 @@
+// The waiting nodes in lent bytes: a record of 32 bytes for each, 8 numbers. The first 3 are its fields; the others are spare, and stay as they are.
+ghost use mathlib.Core.Path.{_≡_};
+ghost use Prim.Native.Nat.{_<_};
+ghost use lib.ListN.{length};
+ghost use Rattle.words.specs.Records.{putAt};
+ghost use Rattle.node.specs.Node.{mostHeld, nodesRoom, shape, fieldOf, nodeAt, nodesIn, wroteIn};
+
+// Its number.
+pub const NODE: usize = 0;
+
+// The level where it waits: the depth of its deepest open ancestor or self.
+pub const LEVEL: usize = 1;
+
+// The steps of which it needs one to be ready there; 0 where it is itself the open element of its level.
+pub const NEED: usize = 2;
+
+// A field of record `i`.
+pub fn get(nodes: &[u8], i: usize, field: usize) -> u32
+    requires { ⌜ (length (now nodes) ≡ nodesRoom) × ((i < mostHeld) × (field < 3)) ⌝ }
+    ensures { λ r. ⌜ r ≡ fieldOf field (nodeAt (nodesIn (now (nodes .entry))) i) ⌝ }
+{
+    words::get(nodes, 8 * i + field)
+}
+
+// A field of record `i` is `v` from now on.
+fn put(nodes: &mut [u8], i: usize, field: usize, v: u32)
+    requires { ⌜ (length (now nodes) ≡ nodesRoom) × ((i < mostHeld) × (field < 3)) ⌝ }
+    ensures { λ r. ⌜ nodesIn (now (nodes .exit)) ≡ putAt shape i field v (nodesIn (now (nodes .entry))) ⌝ }
+{
+    words::put(nodes, 8 * i + field, v);
+}
+
+// Record `i` is this node from now on.
+pub fn write(nodes: &mut [u8], i: usize, node: u32, level: u32, need: u32)
+    requires { ⌜ (length (now nodes) ≡ nodesRoom) × (i < mostHeld) ⌝ }
+    ensures { λ r. ⌜ nodesIn (now (nodes .exit)) ≡ wroteIn i node level need (nodesIn (now (nodes .entry))) ⌝ }
+{
+    put(nodes, i, NODE, node);
+    put(nodes, i, LEVEL, level);
+    put(nodes, i, NEED, need);
+}
