@@ -1,0 +1,68 @@
+-- One row after the other: the invariant says which stand already. Assumes nothing.
+use borrow.Author.Needs.{needs}
+use native.Mathlib.Omega.{arith}
+use Prim.Native.Nat.{_-_, _≤_}
+use mathlib.Core.Path.{_≡_, refl}
+use lib.ListN.{length}
+use Rattle.words.specs.Words.{words}
+use Rattle.plan_bytes.specs.Kept.Laws.{room-is, Written, written-none, written-next, written-all}
+use Rattle.plan_bytes.proofs.put_names.Statement.{statement}
+use Rattle.plan_bytes.proofs.put_names.Tie as tie
+
+abbrev Inv-loop : tie.InvT-loop
+Inv-loop names bytes₀ i₀ bytes i = (i ≤ 32) × ((length bytes ≡ length bytes₀) × Written 8 names i (words bytes₀) (words bytes))
+
+abbrev μ-loop : tie.MeasureT-loop
+μ-loop names bytes₀ i₀ bytes i = 32 - i
+
+loop-holds : tie.Need-loop-holds Inv-loop μ-loop
+loop-holds c = (omega arith, (refl, written-none _ _ _))
+
+mul-name : tie.Need-mul-name Inv-loop μ-loop
+mul-name c = search needs
+
+element-copy-out-name : tie.Need-element-copy-out-name Inv-loop μ-loop
+element-copy-out-name c = search needs
+
+add-put : tie.Need-add-put Inv-loop μ-loop
+add-put c = search needs
+
+wide-requires : tie.Need-wide-requires Inv-loop μ-loop
+wide-requires c κs = search needs
+
+put-requires : tie.Need-put-requires Inv-loop μ-loop
+put-requires c κs = omega (arith, room-is)
+
+add-i : tie.Need-add-i Inv-loop μ-loop
+add-i c = search needs
+
+loop-less : tie.Need-loop-less Inv-loop μ-loop
+loop-less c = search needs
+
+loop-again : tie.Need-loop-again Inv-loop μ-loop
+loop-again c = let at-loop = c .before .before .before .before .before .before .before .loop in
+    (omega arith, (search needs, written-next 8 _ _ _ _ _ (at-loop .inv .1 .1) (c .before .before .put .ensures ∙ ?)))
+
+same-length : tie.Need-same-length Inv-loop μ-loop
+same-length c = search needs
+
+returns : tie.Need-returns Inv-loop μ-loop
+returns c = written-all 8 _ _ _ _ (c .before .loop .inv .0) (omega arith) (c .before .loop .inv .1 .1)
+
+pub put-names-spec : {M : Type 1} → statement M
+put-names-spec =
+    tie.close
+    (tie.spec
+    Inv-loop
+    μ-loop
+    loop-holds
+    mul-name
+    element-copy-out-name
+    add-put
+    wide-requires
+    put-requires
+    add-i
+    loop-less
+    loop-again
+    same-length
+    returns)
