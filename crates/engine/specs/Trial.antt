@@ -17,7 +17,7 @@ use Rattle.meaning.specs.Query.{Query, allStep, hangs, goesDeep, mainIf, mainPa
 use Rattle.meaning.specs.Selection.{start}
 use Rattle.meaning.specs.Stream.{Event, opens, closes}
 use Rattle.meaning.specs.Table.{main-child, main-descendant, has-child, has-descendant, sameNodes}
-use Rattle.sets.specs.Set.{member, covers, overlaps, maskOf}
+use Rattle.sets.specs.Set.{member, without, covers, overlaps, maskOf}
 use Rattle.engine.specs.Engine.{keepIf, keep}
 use Rattle.plan.specs.Order.{predicateIf, predicates, backPath, order, at, mask}
 use Rattle.plan.specs.Plan as Plan
@@ -112,7 +112,7 @@ runRight [] = true
 runRight (c ∷ cs) = sameAll (runs (Plan.plan (c .query)) (c .events) begun) (c .hands) && runRight cs
 
 table : T (runRight cases)
-unfolding runRight cases p1 p3 p5 p6 p8 r1 three sameNodes sameAll quiet runs quickAct begun quickOpen quickClose passes allStep hangs goesDeep mainIf mainPath start member covers overlaps maskOf keepIf keep predicateIf predicates backPath order at mask Plan.plan Plan.named Plan.meets Plan.lift Plan.turn Plan.lastGiven Plan.upIf Plan.up Quick.metAt Quick.sureAt Quick.possAt Quick.certainIf Quick.certain Quick.countedIf Quick.counted Quick.raised Quick.riseIf Quick.riseAt Quick.rise Quick.refreshed Quick.refresh Quick.fresh Quick.framesAfter Quick.judged Quick.openingFrom Quick.opening Quick.over Quick.newcomer Quick.queueAfter Quick.outAfter Quick.opens Quick.cutIf Quick.cut Quick.moved Quick.stay Quick.wentIf Quick.closingFrom Quick.closingAt Quick.closing Quick.closes
+unfolding runRight cases p1 p3 p5 p6 p8 r1 three sameNodes sameAll quiet runs quickAct begun quickOpen quickClose passes allStep hangs goesDeep mainIf mainPath start member without covers overlaps maskOf keepIf keep predicateIf predicates backPath order at mask Plan.plan Plan.named Plan.meets Plan.lift Plan.turn Plan.lastGiven Plan.upIf Plan.up Quick.metAt Quick.sureAt Quick.possAt Quick.certainIf Quick.certain Quick.countedIf Quick.counted Quick.raised Quick.riseIf Quick.riseAt Quick.rise Quick.refreshed Quick.refresh Quick.fresh Quick.framesAfter Quick.judged Quick.openingFrom Quick.opening Quick.over Quick.newcomer Quick.queueAfter Quick.outAfter Quick.opens Quick.cutIf Quick.cut Quick.moved Quick.stay Quick.wentIf Quick.closingFrom Quick.closingAt Quick.closing Quick.closes
 table = tt
 
 -- the opening of a d after the events es, with room for two
@@ -125,5 +125,5 @@ overAt es = Quick.over 2 (reached P es begun) (Quick.opening P 4 (reached P es b
 one-too-many :
     overAt (opens 5 ∷ []) ∷ overAt (opens 5 ∷ opens 4 ∷ closes 4 ∷ []) ∷ overAt (opens 5 ∷ opens 4 ∷ closes 4 ∷ opens 4 ∷ closes 4 ∷ []) ∷ []
     ≡ false ∷ false ∷ true ∷ []
-unfolding overAt reached r1 three runs quickAct begun quickOpen quickClose passes allStep hangs goesDeep mainIf mainPath start member covers overlaps maskOf keepIf keep predicateIf predicates backPath order at mask Plan.plan Plan.named Plan.meets Plan.lift Plan.turn Plan.lastGiven Plan.upIf Plan.up Quick.metAt Quick.sureAt Quick.possAt Quick.certainIf Quick.certain Quick.countedIf Quick.counted Quick.raised Quick.riseIf Quick.riseAt Quick.rise Quick.refreshed Quick.refresh Quick.fresh Quick.framesAfter Quick.judged Quick.openingFrom Quick.opening Quick.over Quick.newcomer Quick.queueAfter Quick.outAfter Quick.opens Quick.cutIf Quick.cut Quick.moved Quick.stay Quick.wentIf Quick.closingFrom Quick.closingAt Quick.closing Quick.closes
+unfolding overAt reached r1 three runs quickAct begun quickOpen quickClose passes allStep hangs goesDeep mainIf mainPath start member without covers overlaps maskOf keepIf keep predicateIf predicates backPath order at mask Plan.plan Plan.named Plan.meets Plan.lift Plan.turn Plan.lastGiven Plan.upIf Plan.up Quick.metAt Quick.sureAt Quick.possAt Quick.certainIf Quick.certain Quick.countedIf Quick.counted Quick.raised Quick.riseIf Quick.riseAt Quick.rise Quick.refreshed Quick.refresh Quick.fresh Quick.framesAfter Quick.judged Quick.openingFrom Quick.opening Quick.over Quick.newcomer Quick.queueAfter Quick.outAfter Quick.opens Quick.cutIf Quick.cut Quick.moved Quick.stay Quick.wentIf Quick.closingFrom Quick.closingAt Quick.closing Quick.closes
 one-too-many = refl

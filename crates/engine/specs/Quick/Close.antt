@@ -90,7 +90,7 @@ module _ (q : Query) (a : T (admits q)) (d : Doc) (o : T (isOpen d)) where
   abbrev P : Plan
   P = plan q
 
-  abbrev O : Ops ℕ (ReadyOf ℕ) (NeedOf ℕ)
+  abbrev O : Ops ℕ ℕ (ReadyOf ℕ) (NeedOf ℕ)
   O = maskOps P
 
   abbrev W : Type 0
