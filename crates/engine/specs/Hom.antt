@@ -15,7 +15,9 @@ use mathlib.Core.List.{List, [], _∷_, _++_, map, map-map, map-append, dropLast
 use lib.ListN.{length, length-map, getD, List·getD-map}
 use Rattle.meaning.specs.Document.{Node}
 use Rattle.engine.specs.Every.{Every, eNil, eCons, every-all}
-use Rattle.engine.specs.Engine.{Ops, Frame, Place, Waiting, State, Result, keepIf, keep, frontIf, front, pastIf, past, isLevel, rise, frameOf, grow, sures, posses, stands, certain, alive, settle, newcomer, openModel, exact, moveIf, move, moveWaiting, closeModel}
+use Rattle.engine.specs.Engine.{Ops, Frame, Place, Waiting, State, Result, keepIf, keep, frontIf, front, pastIf, past, isLevel}
+use Rattle.engine.specs.Engine.{rise, frameOf, grow, sures, posses, stands, certain, alive, settle, newcomer, openModel}
+use Rattle.engine.specs.Engine.{exact, moveIf, move, moveWaiting, closeModel}
 
 -- lists
 

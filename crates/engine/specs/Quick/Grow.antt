@@ -8,15 +8,14 @@
 --   rise-quiet         where none has risen all stay
 --
 -- Assumes that the frames agree with one another (Kept), and that an element in whose content nothing is met meets what `plain` says.
-use Prim.Native.Nat.{ℕ, suc, _+_}
-use native.Mathlib.Omega.{arith}
+use Prim.Native.Nat.{ℕ}
 use mathlib.Core.Path.{_≡_, refl, sym, ap, _∙_}
 use mathlib.Core.Logic.{_⊎_, inl, inr}
 use mathlib.Core.Bool.{Bool, true, false}
 use mathlib.Core.List.{List, [], _∷_, _++_, map, append-assoc, cons-ne-nil}
 use lib.Bits.{or-zero-r, and-zero-l}
 use lib.Dec.{eqb}
-use lib.ListN.{length, getD, length-append}
+use lib.ListN.{length, getD}
 use borrow.Author.Tests.{eqb-true, eq-eqb}
 use Rattle.meaning.specs.Document.{Node}
 use Rattle.meaning.specs.Selection.{ReadyOf}

@@ -84,7 +84,8 @@ module _ {A : Type 0} (c : A → Bool) (n : A) where
 
   some-step :
       (b : Bool) (x : A) (xs : List A) → (eqb (countedIf b (counted c xs)) (suc (length xs)) && c n) ≡ false →
-      (Goes xs ≡ false → (front c (xs ++ (n ∷ [])) ≡ take (counted c xs) xs) × (past c (xs ++ (n ∷ [])) ≡ drop (counted c xs) xs ++ (n ∷ []))) →
+      (Goes xs ≡ false →
+      (front c (xs ++ (n ∷ [])) ≡ take (counted c xs) xs) × (past c (xs ++ (n ∷ [])) ≡ drop (counted c xs) xs ++ (n ∷ []))) →
       (frontIf b x (front c (xs ++ (n ∷ []))) ≡ take (countedIf b (counted c xs)) (x ∷ xs))
       × (pastIf b (x ∷ (xs ++ (n ∷ []))) (past c (xs ++ (n ∷ []))) ≡ drop (countedIf b (counted c xs)) (x ∷ xs) ++ (n ∷ []))
   unfolding countedIf frontIf pastIf

@@ -30,7 +30,9 @@ use Rattle.engine.specs.StateOf.Theorem.{nodes-open}
 use Rattle.plan.specs.Plan.{Plan, plan, named, meets, turn, lastGiven}
 use Rattle.engine.specs.MaskOps.{value, maskOps, masks, maskState}
 use Rattle.engine.specs.MaskOps.Laws.{meets-plain, mask-hom, mask-open}
-use Rattle.engine.specs.Quick.{Frame, Waiting, metAt, sureAt, possAt, certainIf, certain, counted, Rise, rise, refreshed, refresh, fresh, framesAfter, Opening, wentIf, judged, openingFrom, opening, newcomer, queueAfter, outAfter}
+use Rattle.engine.specs.Quick.{Frame, Waiting, metAt, sureAt, possAt, certainIf, certain, counted}
+use Rattle.engine.specs.Quick.{Rise, rise, refreshed, refresh, fresh, framesAfter}
+use Rattle.engine.specs.Quick.{Opening, wentIf, judged, openingFrom, opening, newcomer, queueAfter, outAfter}
 use Rattle.engine.specs.Quick.Of.{frameShown, waitingShown, quickState}
 use Rattle.engine.specs.Quick.Lists.{counted-hom, counted-same, snoc-queue, keep-append, keep-whole}
 use Rattle.engine.specs.Quick.Kept.{fed-masks, Turned, turned-masks}
@@ -284,5 +286,6 @@ module _ (q : Query) (a : T (admits q)) (y : Node) (d : Doc) where
   unfolding opening openingFrom quickState judged
   opening-is =
       ap (λ F. judged P (y .name) (quickState q d) F (wentIf (ltb (length (R .kept)) (length (shown fs))) P F Q)) frames-shown
-      ∙ ap (judged P (y .name) (quickState q d) (shown G)) (went-counted (ltb (length (R .kept)) (length (shown fs))) P (shown G) Q (λ e. quiet (none-risen e)))
+      ∙ ap (judged P (y .name) (quickState q d) (shown G))
+      (went-counted (ltb (length (R .kept)) (length (shown fs))) P (shown G) Q (λ e. quiet (none-risen e)))
       ∙ ap₂ (λ x b. record { frames = shown G; went = counted c Q; all = eqb (counted c Q) (length Q) && x; joins = b }) (sym certain-new) (sym alive-new)

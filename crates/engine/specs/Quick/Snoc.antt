@@ -22,7 +22,7 @@ use Rattle.sets.specs.Set.{join, overlaps}
 use Rattle.plan.specs.Plan.{Plan, meets, lift}
 use Rattle.engine.specs.Engine.{keep}
 use Rattle.engine.specs.Quick.{Frame, Waiting, certain, countedIf, counted, Rise, raised, riseIf, riseAt, rise, refresh, fresh}
-use Rattle.engine.specs.Quick.{framesAfter, sureAt, possAt, wentIf, Cut, cutIf, cut, moved, stay}
+use Rattle.engine.specs.Quick.{framesAfter, sureAt, possAt, wentIf, cutIf, cut, moved, stay}
 use Rattle.engine.specs.Quick.Lists.{keep-le}
 
 -- a rise

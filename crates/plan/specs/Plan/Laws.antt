@@ -5,6 +5,7 @@
 --   plan-first         only the highest of them is ready at the document
 --   hung-predicates    what hangs on a step are predicate steps
 --   meets-predicates   so of what is below an element, meets sees the predicate steps alone
+--   lift-predicates    and predicate steps alone rise
 --   named-under, meets-under     what an element passes and meets has no bit past the last step
 --   meet-narrow, up-narrow       in w digits a shifted need may lose its highest digit: met with a set of w digits it is the same
 --
@@ -13,7 +14,7 @@ use Prim.Native.Nat.{ℕ, zero, suc, pred, _+_, _-_, _*_, _%_, _^_, _<_}
 use native.Mathlib.Nat.{pow-suc, mod-eq-of-lt, lt-of-le-of-lt}
 use native.Mathlib.Omega.{arith}
 use mathlib.Core.Path.{_≡_, refl, sym, ap, ap₂, _∙_}
-use mathlib.Core.Bool.{Bool, true, false, not, _&&_, and-false}
+use mathlib.Core.Bool.{Bool, true, false, not, _&&_, _||_, and-false, true≢false}
 use mathlib.Core.List.{List, [], _∷_, map}
 use lib.Bits.{and-le-l, and-le-r, and-mod, and-zero-l}
 use lib.Pow.{pow-pos}
@@ -22,7 +23,8 @@ use lib.ListN.{length, length-map, getD}
 use borrow.Author.Tests.{eq-eqb, ne-eqb}
 use Rattle.meaning.specs.Query.{Query, Numbered, hangs, admits}
 use Rattle.meaning.specs.Selection.{start}
-use Rattle.sets.specs.Set.{join, meet, without, covers, bit, maskOf}
+use Rattle.sets.specs.Set.{member, join, meet, without, covers, bit, maskOf}
+use Rattle.sets.specs.Set.Laws.{member-join, member-meet, member-without, member-none, no-members}
 use Rattle.sets.specs.Set.Algebra.{meet-apart}
 use Rattle.sets.specs.Set.Of.{maskOf-under, maskOf-agree}
 use Rattle.plan.specs.Any.{sets-ext}
@@ -32,7 +34,7 @@ use Rattle.plan.specs.Order.Mask.{mask-meet, mask-none, mask-agree, mask
 use Rattle.plan.specs.Order.All.{path-main, predicates-main}
 use Rattle.plan.specs.Order.Path.{Linked, ends, links, path-linked, lastMain-positive}
 use Rattle.plan.specs.Places.Laws.{order-length}
-use Rattle.plan.specs.Plan.{Plan, plan, named, meets, upIf}
+use Rattle.plan.specs.Plan.{Plan, plan, named, meets, lift, upIf}
 
 pub plan-size : (q : Query) → length (plan q .tests) ≡ length q
 unfolding plan
@@ -95,6 +97,20 @@ meets-predicates q pass K =
     ap (λ m. meet m pass)
     (maskOf-agree (length (plan q .tests)) _ _
     (λ t l. ap (λ x. eqb x (getD (plan q .hung) t 0)) (meet-apart (getD (plan q .hung) t 0) K (plan q .main) (hung-predicates q t))))
+
+pub lift-predicates : (P : Plan) (M K : ℕ) → meet K (P .main) ≡ 0 → meet (lift P M K) (P .main) ≡ 0
+unfolding lift
+lift-predicates P M K e =
+    no-members _
+    (λ t. simp (member-meet, member-join, member-without)
+    (law (member M t) (member K t) (member (P .deep) t) (member (P .main) t)
+    (sym (member-meet K (P .main) t) ∙ ap (λ x. member x t) e ∙ member-none t)))
+  where
+    law : (x k d m : Bool) → (k && m) ≡ false → (((x && not m) || (k && d)) && m) ≡ false
+    law x k d false f = and-false ((x && true) || (k && d))
+    law x true d true f = absurd (true≢false f)
+    law true false d true f = refl
+    law false false d true f = refl
 
 -- widths
 
