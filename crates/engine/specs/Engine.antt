@@ -1,11 +1,11 @@
 -- The engine, over any kind of sets of steps: it keeps the open elements and the waiting nodes, and no tree.
 --
---   Ops S R N          what the engine asks of sets S, of readys R and of needs N
---   Frame S R          an open element: its node, what is surely met in its content so far, and what its content is read with
+--   Ops S B R N        what the engine asks of sets S (none has no step), of what is below B (empty is nothing), of readys R, of needs N
+--   Frame B R          an open element: its node, what is surely met in its content so far, and what its content is read with
 --   Place N            where a node waits (0 is the document, l the l-th open element) and what it needs there
 --   Waiting N          a waiting node's number and place
---   State S R N        the open elements, outermost first; the waiting nodes, in document order; how many nodes have been opened
---   Result S R N       the next state and the nodes handed out
+--   State B R N        the open elements, outermost first; the waiting nodes, in document order; how many nodes have been opened
+--   Result B R N       the next state and the nodes handed out
 --   keep p xs          those of xs that pass p
 --   front c xs, past c xs     the longest beginning of xs that passes c, and what comes after it
 --   rise O y fs        what the opening of y inside the frames fs adds to what is met at the level above them
@@ -17,6 +17,7 @@
 --   exact O fs         what the innermost open element meets: at its close that is final
 --   move O l M x       the place x after the close of an element at level l + 1 that meets M
 --
+-- What an element meets is an S, what is met in its content a B: an engine may keep less of the second, as much as meets can see.
 -- Assumes nothing. NOT here: the meaning's sets (StateOf), masks (Plan), what a close or an open need not look at (Quick).
 use Prim.Native.Nat.{ℕ, zero, suc, pred}
 use mathlib.Core.Bool.{Bool, true, false}
@@ -24,21 +25,22 @@ use mathlib.Core.List.{List, [], _∷_, _++_, map, dropLast}
 use lib.ListN.{length, getD}
 use Rattle.meaning.specs.Document.{Node}
 
-pub record Ops (S R N : Type 0) : Type 0 where
-  pub empty : S
-  pub join : S → S → S
-  pub lift : S → S → S
+pub record Ops (S B R N : Type 0) : Type 0 where
+  pub none : S
+  pub empty : B
+  pub join : B → B → B
+  pub lift : S → B → B
   pub named : Node → S
-  pub meets : Node → S → S
+  pub meets : Node → B → S
   pub turn : S → R → R
   pub start : R
   pub value : R → N → Bool
   pub up : S → N → N
   pub itself : N
 
-pub record Frame (S R : Type 0) : Type 0 where
+pub record Frame (B R : Type 0) : Type 0 where
   pub node : Node
-  pub below : S
+  pub below : B
   pub sure : R
   pub poss : R
 
@@ -50,13 +52,13 @@ pub record Waiting (N : Type 0) : Type 0 where
   pub number : ℕ
   pub place : Place N
 
-pub record State (S R N : Type 0) : Type 0 where
-  pub frames : List (Frame S R)
+pub record State (B R N : Type 0) : Type 0 where
+  pub frames : List (Frame B R)
   pub queue : List (Waiting N)
   pub opened : ℕ
 
-pub record Result (S R N : Type 0) : Type 0 where
-  pub state : State S R N
+pub record Result (B R N : Type 0) : Type 0 where
+  pub state : State B R N
   pub out : List ℕ
 
 -- lists
@@ -92,52 +94,52 @@ isLevel zero (suc m) = false
 isLevel (suc l) zero = false
 isLevel (suc l) (suc m) = isLevel l m
 
-module _ {S R N : Type 0} (O : Ops S R N) where
-  unfoldable pub rise : Node → List (Frame S R) → S
+module _ {S B R N : Type 0} (O : Ops S B R N) where
+  unfoldable pub rise : Node → List (Frame B R) → B
   rise y [] = O .lift (O .meets y (O .empty)) (O .empty)
   rise y (f ∷ fs) = O .lift (O .meets (f .node) (O .join (f .below) (rise y fs))) (O .join (f .below) (rise y fs))
 
-  -- an open element with B met in its content, under rs
-  abbrev pub frameOf : Node → S → R → R → Frame S R
-  frameOf x B rs r = record { node = x; below = B; sure = O .turn (O .meets x B) rs; poss = r }
+  -- an open element with K met in its content, under rs
+  abbrev pub frameOf : Node → B → R → R → Frame B R
+  frameOf x K rs r = record { node = x; below = K; sure = O .turn (O .meets x K) rs; poss = r }
 
   -- an open takes nothing from the open reading of the elements around it, and adds nothing to it
-  unfoldable pub grow : Node → R → R → List (Frame S R) → List (Frame S R)
+  unfoldable pub grow : Node → R → R → List (Frame B R) → List (Frame B R)
   grow y rs rp [] = frameOf y (O .empty) rs (O .turn (O .named y) rp) ∷ []
   grow y rs rp (f ∷ fs) =
       frameOf (f .node) (O .join (f .below) (rise y fs)) rs (f .poss)
       ∷ grow y (O .turn (O .meets (f .node) (O .join (f .below) (rise y fs))) rs) (f .poss) fs
 
-  unfoldable pub sures : List (Frame S R) → List R
+  unfoldable pub sures : List (Frame B R) → List R
   sures fs = O .start ∷ map (λ f. f .sure) fs
 
-  unfoldable pub posses : List (Frame S R) → List R
+  unfoldable pub posses : List (Frame B R) → List R
   posses fs = O .start ∷ map (λ f. f .poss) fs
 
   unfoldable pub stands : List R → Place N → Bool
   stands rs x = O .value (getD rs (x .level) (O .start)) (x .need)
 
-  unfoldable pub certain : List (Frame S R) → Waiting N → Bool
+  unfoldable pub certain : List (Frame B R) → Waiting N → Bool
   certain fs w = stands (sures fs) (w .place)
 
-  unfoldable pub alive : List (Frame S R) → Waiting N → Bool
+  unfoldable pub alive : List (Frame B R) → Waiting N → Bool
   alive fs w = stands (posses fs) (w .place)
 
-  unfoldable pub settle : List (Frame S R) → List (Waiting N) → ℕ → Result S R N
+  unfoldable pub settle : List (Frame B R) → List (Waiting N) → ℕ → Result B R N
   settle fs ws n =
       record {
         state = record { frames = fs; queue = past (certain fs) (keep (alive fs) ws); opened = n };
         out = map (λ w. w .number) (front (certain fs) (keep (alive fs) ws));
       }
 
-  unfoldable pub newcomer : State S R N → Waiting N
+  unfoldable pub newcomer : State B R N → Waiting N
   newcomer s = record { number = suc (s .opened); place = record { level = suc (length (s .frames)); need = O .itself } }
 
-  unfoldable pub openModel : Node → State S R N → Result S R N
+  unfoldable pub openModel : Node → State B R N → Result B R N
   openModel y s = settle (grow y (O .start) (O .start) (s .frames)) (s .queue ++ (newcomer s ∷ [])) (suc (s .opened))
 
-  unfoldable pub exact : List (Frame S R) → S
-  exact [] = O .empty
+  unfoldable pub exact : List (Frame B R) → S
+  exact [] = O .none
   exact (f ∷ []) = O .meets (f .node) (f .below)
   exact (f ∷ (f′ ∷ fs)) = exact (f′ ∷ fs)
 
@@ -151,6 +153,6 @@ module _ {S R N : Type 0} (O : Ops S R N) where
   unfoldable pub moveWaiting : ℕ → S → Waiting N → Waiting N
   moveWaiting l M w = record { number = w .number; place = move l M (w .place) }
 
-  unfoldable pub closeModel : State S R N → Result S R N
+  unfoldable pub closeModel : State B R N → Result B R N
   closeModel s =
       settle (dropLast (s .frames)) (map (moveWaiting (pred (length (s .frames))) (exact (s .frames))) (s .queue)) (s .opened)

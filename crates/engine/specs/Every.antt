@@ -3,9 +3,10 @@
 --   every-keep     of those kept;  every-past: of those past a beginning
 --
 -- What Every says and its other laws are crate plan's, and handed on from here. Assumes nothing.
-pub use Rattle.plan.specs.Every.{Every, eNil, eCons, every-head, every-all, every-map, every-both, every-append, every-left, every-right, every-reverse, every-mapped, every-same}
+pub use Rattle.plan.specs.Every.{Every, eNil, eCons, every-head, every-all, every-map, every-both}
+pub use Rattle.plan.specs.Every.{every-append, every-left, every-right, every-reverse, every-mapped, every-same}
 use mathlib.Core.Bool.{Bool, true, false}
-use mathlib.Core.List.{List, [], _∷_}
+use mathlib.Core.List.{List}
 use Rattle.engine.specs.Engine.{keepIf, keep, pastIf, past}
 
 module _ {A : Type 0} {F : A → Type 0} where

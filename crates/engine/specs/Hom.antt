@@ -1,6 +1,6 @@
 -- Sets in another coat: what keeps the operations keeps the engine.
 --
---   Coat               how sets, readys and needs are turned
+--   Coat               how sets, what is below, readys and needs are turned
 --   frameIn, placeIn, waitingIn, stateIn, resultIn     the same of what the engine keeps
 --   Hom O P k          k turns each operation of O into that of P
 --   open-hom, close-hom      then it turns the engine's events over O into those over P
@@ -15,7 +15,9 @@ use mathlib.Core.List.{List, [], _∷_, _++_, map, map-map, map-append, dropLast
 use lib.ListN.{length, length-map, getD, List·getD-map}
 use Rattle.meaning.specs.Document.{Node}
 use Rattle.engine.specs.Every.{Every, eNil, eCons, every-all}
-use Rattle.engine.specs.Engine.{Ops, Frame, Place, Waiting, State, Result, keepIf, keep, frontIf, front, pastIf, past, isLevel, rise, frameOf, grow, sures, posses, stands, certain, alive, settle, newcomer, openModel, exact, moveIf, move, moveWaiting, closeModel}
+use Rattle.engine.specs.Engine.{Ops, Frame, Place, Waiting, State, Result, keepIf, keep, frontIf, front, pastIf, past, isLevel}
+use Rattle.engine.specs.Engine.{rise, frameOf, grow, sures, posses, stands, certain, alive, settle, newcomer, openModel}
+use Rattle.engine.specs.Engine.{exact, moveIf, move, moveWaiting, closeModel}
 
 -- lists
 
@@ -57,14 +59,15 @@ module _ {A B : Type 0} (g : A → B) where
 
 -- the coat
 
-pub record Coat (S R N S′ R′ N′ : Type 0) : Type 0 where
+pub record Coat (S B R N S′ B′ R′ N′ : Type 0) : Type 0 where
   pub set : S → S′
+  pub below : B → B′
   pub ready : R → R′
   pub need : N → N′
 
-module _ {S R N S′ R′ N′ : Type 0} (k : Coat S R N S′ R′ N′) where
-  abbrev pub frameIn : Frame S R → Frame S′ R′
-  frameIn f = record { node = f .node; below = k .set (f .below); sure = k .ready (f .sure); poss = k .ready (f .poss) }
+module _ {S B R N S′ B′ R′ N′ : Type 0} (k : Coat S B R N S′ B′ R′ N′) where
+  abbrev pub frameIn : Frame B R → Frame B′ R′
+  frameIn f = record { node = f .node; below = k .below (f .below); sure = k .ready (f .sure); poss = k .ready (f .poss) }
 
   abbrev pub placeIn : Place N → Place N′
   placeIn x = record { level = x .level; need = k .need (x .need) }
@@ -72,58 +75,60 @@ module _ {S R N S′ R′ N′ : Type 0} (k : Coat S R N S′ R′ N′) where
   abbrev pub waitingIn : Waiting N → Waiting N′
   waitingIn w = record { number = w .number; place = placeIn (w .place) }
 
-  abbrev pub stateIn : State S R N → State S′ R′ N′
+  abbrev pub stateIn : State B R N → State B′ R′ N′
   stateIn s = record { frames = map frameIn (s .frames); queue = map waitingIn (s .queue); opened = s .opened }
 
-  abbrev pub resultIn : Result S R N → Result S′ R′ N′
+  abbrev pub resultIn : Result B R N → Result B′ R′ N′
   resultIn r = record { state = stateIn (r .state); out = r .out }
 
-pub record Hom {S R N S′ R′ N′ : Type 0} (O : Ops S R N) (P : Ops S′ R′ N′) (k : Coat S R N S′ R′ N′) : Type 0 where
-  pub empty : k .set (O .empty) ≡ P .empty
-  pub join : (a b : S) → k .set (O .join a b) ≡ P .join (k .set a) (k .set b)
-  pub lift : (a b : S) → k .set (O .lift a b) ≡ P .lift (k .set a) (k .set b)
+pub record Hom {S B R N S′ B′ R′ N′ : Type 0} (O : Ops S B R N) (P : Ops S′ B′ R′ N′) (k : Coat S B R N S′ B′ R′ N′) : Type 0 where
+  pub none : k .set (O .none) ≡ P .none
+  pub empty : k .below (O .empty) ≡ P .empty
+  pub join : (a b : B) → k .below (O .join a b) ≡ P .join (k .below a) (k .below b)
+  pub lift : (M : S) (a : B) → k .below (O .lift M a) ≡ P .lift (k .set M) (k .below a)
   pub named : (x : Node) → k .set (O .named x) ≡ P .named x
-  pub meets : (x : Node) (a : S) → k .set (O .meets x a) ≡ P .meets x (k .set a)
+  pub meets : (x : Node) (a : B) → k .set (O .meets x a) ≡ P .meets x (k .below a)
   pub turn : (M : S) (r : R) → k .ready (O .turn M r) ≡ P .turn (k .set M) (k .ready r)
   pub start : k .ready (O .start) ≡ P .start
   pub value : (r : R) (n : N) → O .value r n ≡ P .value (k .ready r) (k .need n)
   pub up : (M : S) (n : N) → k .need (O .up M n) ≡ P .up (k .set M) (k .need n)
   pub itself : k .need (O .itself) ≡ P .itself
 
-module _ {S R N S′ R′ N′ : Type 0} (O : Ops S R N) (P : Ops S′ R′ N′) (k : Coat S R N S′ R′ N′) (h : Hom O P k) where
+module _
+    {S B R N S′ B′ R′ N′ : Type 0} (O : Ops S B R N) (P : Ops S′ B′ R′ N′) (k : Coat S B R N S′ B′ R′ N′) (h : Hom O P k) where
   -- what has risen from inside, joined to what was below, and its element
-  joined : (f : Frame S R) {x : S} {y : S′} → k .set x ≡ y → k .set (O .join (f .below) x) ≡ P .join (k .set (f .below)) y
-  joined f e = h .join _ _ ∙ ap (P .join (k .set (f .below))) e
+  joined : (f : Frame B R) {x : B} {y : B′} → k .below x ≡ y → k .below (O .join (f .below) x) ≡ P .join (k .below (f .below)) y
+  joined f e = h .join _ _ ∙ ap (P .join (k .below (f .below))) e
 
-  met-hom : (x : Node) {a : S} {b : S′} → k .set a ≡ b → k .set (O .meets x a) ≡ P .meets x b
+  met-hom : (x : Node) {a : B} {b : B′} → k .below a ≡ b → k .set (O .meets x a) ≡ P .meets x b
   met-hom x e = h .meets x _ ∙ ap (P .meets x) e
 
   turn-hom : {M : S} {M′ : S′} (r : R) → k .set M ≡ M′ → k .ready (O .turn M r) ≡ P .turn M′ (k .ready r)
   turn-hom r e = h .turn _ r ∙ ap (λ x. P .turn x (k .ready r)) e
 
-  rise-hom : (y : Node) (fs : List (Frame S R)) → k .set (rise O y fs) ≡ rise P y (map (frameIn k) fs)
+  rise-hom : (y : Node) (fs : List (Frame B R)) → k .below (rise O y fs) ≡ rise P y (map (frameIn k) fs)
   unfolding rise
   rise-hom y [] = h .lift _ _ ∙ ap₂ (P .lift) (met-hom y (h .empty)) (h .empty)
   rise-hom y (f ∷ fs) = h .lift _ _ ∙ ap₂ (P .lift) (met-hom (f .node) (joined f (rise-hom y fs))) (joined f (rise-hom y fs))
 
   frame-hom :
-      (x : Node) {B : S} {B′ : S′} (rs : R) {r : R} {r′ : R′} → k .set B ≡ B′ → k .ready r ≡ r′ →
-      frameIn k (frameOf O x B rs r) ≡ frameOf P x B′ (k .ready rs) r′
-  frame-hom x {B} {B′} rs {r} {r′} e e′ =
-      ap₂ (λ b s. record { node = x; below = b; sure = s; poss = k .ready r }) e (turn-hom rs (met-hom x e))
-      ∙ ap (λ p. record { node = x; below = B′; sure = P .turn (P .meets x B′) (k .ready rs); poss = p }) e′
+      (x : Node) {a : B} {b : B′} (rs : R) {r : R} {r′ : R′} → k .below a ≡ b → k .ready r ≡ r′ →
+      frameIn k (frameOf O x a rs r) ≡ frameOf P x b (k .ready rs) r′
+  frame-hom x {a} {b} rs {r} {r′} e e′ =
+      ap₂ (λ c s. record { node = x; below = c; sure = s; poss = k .ready r }) e (turn-hom rs (met-hom x e))
+      ∙ ap (λ p. record { node = x; below = b; sure = P .turn (P .meets x b) (k .ready rs); poss = p }) e′
 
   grow-hom :
-      (y : Node) (rs rp : R) (fs : List (Frame S R)) →
+      (y : Node) (rs rp : R) (fs : List (Frame B R)) →
       map (frameIn k) (grow O y rs rp fs) ≡ grow P y (k .ready rs) (k .ready rp) (map (frameIn k) fs)
   unfolding grow
   grow-hom y rs rp [] = ap (λ f. f ∷ []) (frame-hom y rs (h .empty) (turn-hom rp (h .named y)))
   grow-hom y rs rp (f ∷ fs) =
-      ap₂ _∷_ (frame-hom (f .node) rs B refl)
-      (grow-hom y _ (f .poss) fs ∙ ap (λ r. grow P y r (k .ready (f .poss)) (map (frameIn k) fs)) (turn-hom rs (met-hom (f .node) B)))
+      ap₂ _∷_ (frame-hom (f .node) rs inside refl)
+      (grow-hom y _ (f .poss) fs ∙ ap (λ r. grow P y r (k .ready (f .poss)) (map (frameIn k) fs)) (turn-hom rs (met-hom (f .node) inside)))
     where
-      B : k .set (O .join (f .below) (rise O y fs)) ≡ P .join (k .set (f .below)) (rise P y (map (frameIn k) fs))
-      B = joined f (rise-hom y fs)
+      inside : k .below (O .join (f .below) (rise O y fs)) ≡ P .join (k .below (f .below)) (rise P y (map (frameIn k) fs))
+      inside = joined f (rise-hom y fs)
 
   stands-hom : (rs : List R) (x : Place N) → stands O rs x ≡ stands P (map (k .ready) rs) (placeIn k x)
   unfolding stands
@@ -132,26 +137,26 @@ module _ {S R N S′ R′ N′ : Type 0} (O : Ops S R N) (P : Ops S′ R′ N′
       ∙ ap (λ r. P .value r (k .need (x .need)))
       (sym (ap (getD (map (k .ready) rs) (x .level)) (sym (h .start)) ∙ List·getD-map (k .ready) rs (x .level) (O .start)))
 
-  sures-hom : (fs : List (Frame S R)) → map (k .ready) (sures O fs) ≡ sures P (map (frameIn k) fs)
+  sures-hom : (fs : List (Frame B R)) → map (k .ready) (sures O fs) ≡ sures P (map (frameIn k) fs)
   unfolding sures
   sures-hom fs =
-      ap₂ _∷_ (h .start) (map-map (k .ready) (λ (f : Frame S R). f .sure) fs ∙ sym (map-map (λ (f : Frame S′ R′). f .sure) (frameIn k) fs))
+      ap₂ _∷_ (h .start) (map-map (k .ready) (λ (f : Frame B R). f .sure) fs ∙ sym (map-map (λ (f : Frame B′ R′). f .sure) (frameIn k) fs))
 
-  posses-hom : (fs : List (Frame S R)) → map (k .ready) (posses O fs) ≡ posses P (map (frameIn k) fs)
+  posses-hom : (fs : List (Frame B R)) → map (k .ready) (posses O fs) ≡ posses P (map (frameIn k) fs)
   unfolding posses
   posses-hom fs =
-      ap₂ _∷_ (h .start) (map-map (k .ready) (λ (f : Frame S R). f .poss) fs ∙ sym (map-map (λ (f : Frame S′ R′). f .poss) (frameIn k) fs))
+      ap₂ _∷_ (h .start) (map-map (k .ready) (λ (f : Frame B R). f .poss) fs ∙ sym (map-map (λ (f : Frame B′ R′). f .poss) (frameIn k) fs))
 
-  pub certain-hom : (fs : List (Frame S R)) (w : Waiting N) → certain O fs w ≡ certain P (map (frameIn k) fs) (waitingIn k w)
+  pub certain-hom : (fs : List (Frame B R)) (w : Waiting N) → certain O fs w ≡ certain P (map (frameIn k) fs) (waitingIn k w)
   unfolding certain
   certain-hom fs w = stands-hom (sures O fs) (w .place) ∙ ap (λ rs. stands P rs (placeIn k (w .place))) (sures-hom fs)
 
-  pub alive-hom : (fs : List (Frame S R)) (w : Waiting N) → alive O fs w ≡ alive P (map (frameIn k) fs) (waitingIn k w)
+  pub alive-hom : (fs : List (Frame B R)) (w : Waiting N) → alive O fs w ≡ alive P (map (frameIn k) fs) (waitingIn k w)
   unfolding alive
   alive-hom fs w = stands-hom (posses O fs) (w .place) ∙ ap (λ rs. stands P rs (placeIn k (w .place))) (posses-hom fs)
 
   settle-hom :
-      (fs : List (Frame S R)) (ws : List (Waiting N)) (n : ℕ) →
+      (fs : List (Frame B R)) (ws : List (Waiting N)) (n : ℕ) →
       resultIn k (settle O fs ws n) ≡ settle P (map (frameIn k) fs) (map (waitingIn k) ws) n
   unfolding settle
   settle-hom fs ws n =
@@ -164,12 +169,12 @@ module _ {S R N S′ R′ N′ : Type 0} (O : Ops S R N) (P : Ops S′ R′ N′
       kept : map (waitingIn k) (keep (alive O fs) ws) ≡ keep (alive P (map (frameIn k) fs)) (map (waitingIn k) ws)
       kept = keep-hom (waitingIn k) _ _ (every-all (alive-hom fs) ws)
 
-  pub newcomer-hom : (s : State S R N) → waitingIn k (newcomer O s) ≡ newcomer P (stateIn k s)
+  pub newcomer-hom : (s : State B R N) → waitingIn k (newcomer O s) ≡ newcomer P (stateIn k s)
   unfolding newcomer
   newcomer-hom s =
       ap₂ (λ l n. record { number = suc (s .opened); place = record { level = suc l; need = n } }) (sym (length-map (s .frames) (frameIn k))) (h .itself)
 
-  pub open-hom : (y : Node) (s : State S R N) → resultIn k (openModel O y s) ≡ openModel P y (stateIn k s)
+  pub open-hom : (y : Node) (s : State B R N) → resultIn k (openModel O y s) ≡ openModel P y (stateIn k s)
   unfolding openModel
   open-hom y s =
       settle-hom _ _ _
@@ -177,9 +182,9 @@ module _ {S R N S′ R′ N′ : Type 0} (O : Ops S R N) (P : Ops S′ R′ N′
       (grow-hom y _ _ (s .frames) ∙ ap₂ (λ a b. grow P y a b (map (frameIn k) (s .frames))) (h .start) (h .start))
       (map-append (waitingIn k) (s .queue) _ ∙ ap (λ w. map (waitingIn k) (s .queue) ++ (w ∷ [])) (newcomer-hom s))
 
-  exact-hom : (fs : List (Frame S R)) → k .set (exact O fs) ≡ exact P (map (frameIn k) fs)
+  exact-hom : (fs : List (Frame B R)) → k .set (exact O fs) ≡ exact P (map (frameIn k) fs)
   unfolding exact
-  exact-hom [] = h .empty
+  exact-hom [] = h .none
   exact-hom (f ∷ []) = h .meets (f .node) _
   exact-hom (f ∷ (f′ ∷ fs)) = exact-hom (f′ ∷ fs)
 
@@ -193,14 +198,14 @@ module _ {S R N S′ R′ N′ : Type 0} (O : Ops S R N) (P : Ops S′ R′ N′
   move-hom l M w = ap (λ x. record { number = w .number; place = x }) (move-if (isLevel (w .place .level) (suc l)) l M (w .place))
 
   pub moves-hom :
-      (fs : List (Frame S R)) (w : Waiting N) →
+      (fs : List (Frame B R)) (w : Waiting N) →
       waitingIn k (moveWaiting O (pred (length fs)) (exact O fs) w)
       ≡ moveWaiting P (pred (length (map (frameIn k) fs))) (exact P (map (frameIn k) fs)) (waitingIn k w)
   moves-hom fs w =
       move-hom _ _ w
       ∙ ap₂ (λ l M. moveWaiting P (pred l) M (waitingIn k w)) (sym (length-map fs (frameIn k))) (exact-hom fs)
 
-  pub close-hom : (s : State S R N) → resultIn k (closeModel O s) ≡ closeModel P (stateIn k s)
+  pub close-hom : (s : State B R N) → resultIn k (closeModel O s) ≡ closeModel P (stateIn k s)
   unfolding closeModel
   close-hom s =
       settle-hom _ _ _

@@ -1,7 +1,8 @@
 -- The engine's sets, readys and needs as masks in the order of a query.
 --
 --   maskOps P          the plan's operations, as the engine wants them
---   masks q            how the meaning's sets become masks: what an element meets in the order of q, readys and needs along its path
+--   masks q            how the meaning's sets become masks: what an element meets in the order of q, the predicate steps of what is
+--                      below it, readys and needs along its path
 --   maskState q d      the state after d, in masks
 --
 -- Assumes nothing. That the operations agree, for an admitted query, is shown in MaskOps.Laws. Here a Ready still says whether the last
@@ -12,13 +13,13 @@ use mathlib.Core.Bool.{Bool, true, false}
 use Rattle.meaning.specs.Query.{Query, Steps}
 use Rattle.meaning.specs.Document.{Doc}
 use Rattle.meaning.specs.Selection.{Ready, ReadyOf}
-use Rattle.sets.specs.Set.{join, overlaps}
+use Rattle.sets.specs.Set.{join, without, overlaps}
 use Rattle.engine.specs.Need.{NeedOf, Need, itself, one-of}
 use Rattle.engine.specs.Engine.{Ops, State}
 use Rattle.engine.specs.Hom.{Coat, stateIn}
 use Rattle.engine.specs.StateOf.{stateOf}
 use Rattle.plan.specs.Order.{backPath, order, mask}
-use Rattle.plan.specs.Plan.{Plan, named, meets, lift, turn, lastGiven, upIf}
+use Rattle.plan.specs.Plan.{Plan, plan, named, meets, lift, turn, lastGiven, upIf}
 
 unfoldable pub value : ReadyOf ℕ → NeedOf ℕ → Bool
 value r itself = r .end
@@ -28,9 +29,10 @@ unfoldable pub up : Plan → ℕ → NeedOf ℕ → NeedOf ℕ
 up P M itself = one-of (upIf true P M 0)
 up P M (one-of N) = one-of (upIf false P M N)
 
-abbrev pub maskOps : Plan → Ops ℕ (ReadyOf ℕ) (NeedOf ℕ)
+abbrev pub maskOps : Plan → Ops ℕ ℕ (ReadyOf ℕ) (NeedOf ℕ)
 maskOps P =
     record {
+      none = 0;
       empty = 0;
       join = join;
       lift = lift P;
@@ -47,10 +49,11 @@ unfoldable pub needMask : Query → Need → NeedOf ℕ
 needMask q itself = itself
 needMask q (one-of N) = one-of (mask (backPath q) N)
 
-abbrev pub masks : Query → Coat Steps Ready Need ℕ (ReadyOf ℕ) (NeedOf ℕ)
+abbrev pub masks : Query → Coat Steps Steps Ready Need ℕ ℕ (ReadyOf ℕ) (NeedOf ℕ)
 masks q =
     record {
       set = mask (order q);
+      below = λ K. without (mask (order q) K) (plan q .main);
       ready = λ r. record { steps = mask (backPath q) (r .steps); end = r .end };
       need = needMask q;
     }

@@ -1,8 +1,8 @@
 -- The quick engine: lists of frames and waiting nodes over masks, touching no more of them than an event can change. Total on any state.
 --
---   Frame              an open element: its name; the steps whose name test it passes (pass); what is surely met in its content so far
---                      (below); the steps it surely meets (met); whose turn it is in its content, in the sure reading (sure) and in the
---                      open reading (poss)
+--   Frame              an open element: its name; the steps whose name test it passes (pass); the predicate steps that are surely met
+--                      in its content so far (below); the steps it surely meets (met); whose turn it is in its content, in the sure
+--                      reading (sure) and in the open reading (poss)
 --   Waiting            a waiting node: its number, the level where it waits (the depth of its deepest open ancestor or self), its need
 --   State              the open elements, outermost first; the waiting nodes, in document order; the nodes opened and handed out so
 --                      far; whether the document element has been closed
@@ -28,6 +28,7 @@
 -- what a session reads off such a state is in Quick.Reads.
 pub mod Of
 pub mod Lists
+pub mod Snoc
 pub mod Kept
 pub mod Lookup
 pub mod Grow
@@ -42,7 +43,7 @@ use mathlib.Core.List.{List, [], _∷_, _++_, map, dropLast}
 use lib.Dec.{eqb, leb, ltb}
 use lib.ListN.{length, getD, take, drop}
 use Rattle.meaning.specs.Stream.{Event}
-use Rattle.sets.specs.Set.{join, meet, overlaps}
+use Rattle.sets.specs.Set.{join, meet, without, overlaps}
 use Rattle.engine.specs.Engine.{keep}
 use Rattle.plan.specs.Plan.{Plan, named, meets, lift, turn, lastGiven, up}
 
@@ -175,8 +176,9 @@ openingFrom P n s r =
     judged P n s (framesAfter P n (s .frames) r)
     (wentIf (ltb (length (r .kept)) (length (s .frames))) P (framesAfter P n (s .frames) r) (s .queue))
 
+-- the predicate steps that the new element meets rise
 unfoldable pub opening : Plan → ℕ → State → Opening
-opening P n s = openingFrom P n s (rise P (meet (named P n) (P .plain)) (s .frames))
+opening P n s = openingFrom P n s (rise P (without (meet (named P n) (P .plain)) (P .main)) (s .frames))
 
 -- "an open after which more than 128 nodes would be held"
 unfoldable pub over : ℕ → State → Opening → Bool

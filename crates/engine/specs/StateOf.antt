@@ -1,6 +1,6 @@
 -- The state that the meaning prescribes for a document. The engine's invariant is an equation with it.
 --
---   ops q              the meaning's sets, readys and needs, as the engine wants them
+--   ops q              the meaning's sets, readys and needs, as the engine wants them; what is below is a set like any other
 --   framesOf q d rs rp     the open elements of the content d, around which the readys are rs (sure) and rp (open reading)
 --   places q d         where each node of d waits and what it needs there, in document order
 --   number i xs        places as waiting nodes, the first having number i;  numberOf w: the number of one
@@ -22,9 +22,10 @@ use Rattle.meaning.specs.Selection.{sure-reading, named, meets, join, empty, li
 use Rattle.engine.specs.Need.{Need, itself, value, up, needs}
 use Rattle.engine.specs.Engine.{Ops, Frame, Place, Waiting, State, keep, past, certain, alive}
 
-abbrev pub ops : Query → Ops Steps Ready Need
+abbrev pub ops : Query → Ops Steps Steps Ready Need
 ops q =
     record {
+      none = empty;
       empty = empty;
       join = join;
       lift = lift;

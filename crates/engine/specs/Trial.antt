@@ -1,5 +1,6 @@
 -- The quick engine run on some of document 01's cases, by computation.
 --
+--   planned q, acts P e s      the plan of q and the event e, with all that they compute by
 --   runs P es s        what each event of es hands out;  reached P es s: the state after es
 --   Case, cases        a query, events, and what each of them hands out: P1, P3, P5, P6, P8, and R1 with three d
 --   table              every case runs so
@@ -17,20 +18,32 @@ use Rattle.meaning.specs.Query.{Query, allStep, hangs, goesDeep, mainIf, mainPa
 use Rattle.meaning.specs.Selection.{start}
 use Rattle.meaning.specs.Stream.{Event, opens, closes}
 use Rattle.meaning.specs.Table.{main-child, main-descendant, has-child, has-descendant, sameNodes}
-use Rattle.sets.specs.Set.{member, covers, overlaps, maskOf}
+use Rattle.sets.specs.Set.{member, without, covers, overlaps, maskOf}
 use Rattle.engine.specs.Engine.{keepIf, keep}
 use Rattle.plan.specs.Order.{predicateIf, predicates, backPath, order, at, mask}
 use Rattle.plan.specs.Plan as Plan
 use Rattle.engine.specs.Quick as Quick
-use Rattle.engine.specs.Quick.{State, begun, quickOpen, quickClose, quickAct}
+use Rattle.engine.specs.Quick.{State, Result, begun, quickOpen, quickClose, quickAct}
+
+planned : Query → Plan.Plan
+unfolding passes allStep hangs goesDeep mainIf mainPath start maskOf predicateIf predicates backPath order at mask Plan.plan
+planned q = Plan.plan q
+
+acts : Plan.Plan → Event → State → Result
+unfolding member without covers overlaps keepIf keep Plan.named Plan.meets Plan.lift Plan.turn Plan.lastGiven Plan.upIf Plan.up quickAct
+    quickOpen Quick.opening Quick.openingFrom Quick.judged Quick.framesAfter Quick.fresh Quick.refresh Quick.refreshed Quick.rise Quick.riseAt
+    Quick.riseIf Quick.raised Quick.over Quick.newcomer Quick.queueAfter Quick.outAfter Quick.opens Quick.wentIf Quick.counted Quick.countedIf
+    Quick.certain Quick.certainIf Quick.metAt Quick.sureAt Quick.possAt quickClose Quick.closing Quick.closingAt Quick.closingFrom Quick.stay
+    Quick.moved Quick.cut Quick.cutIf Quick.closes
+acts P e s = quickAct P e s
 
 runs : Plan.Plan → List Event → State → List (List ℕ)
 runs P [] s = []
-runs P (e ∷ es) s = quickAct P e s .out ∷ runs P es (quickAct P e s .state)
+runs P (e ∷ es) s = acts P e s .out ∷ runs P es (acts P e s .state)
 
 reached : Plan.Plan → List Event → State → State
 reached P [] s = s
-reached P (e ∷ es) s = reached P es (quickAct P e s .state)
+reached P (e ∷ es) s = reached P es (acts P e s .state)
 
 record Case : Type 0 where
   query : Query
@@ -109,10 +122,10 @@ sameAll (x ∷ xs) (y ∷ ys) = sameNodes x y && sameAll xs ys
 
 runRight : List Case → Bool
 runRight [] = true
-runRight (c ∷ cs) = sameAll (runs (Plan.plan (c .query)) (c .events) begun) (c .hands) && runRight cs
+runRight (c ∷ cs) = sameAll (runs (planned (c .query)) (c .events) begun) (c .hands) && runRight cs
 
 table : T (runRight cases)
-unfolding runRight cases p1 p3 p5 p6 p8 r1 three sameNodes sameAll quiet runs quickAct begun quickOpen quickClose passes allStep hangs goesDeep mainIf mainPath start member covers overlaps maskOf keepIf keep predicateIf predicates backPath order at mask Plan.plan Plan.named Plan.meets Plan.lift Plan.turn Plan.lastGiven Plan.upIf Plan.up Quick.metAt Quick.sureAt Quick.possAt Quick.certainIf Quick.certain Quick.countedIf Quick.counted Quick.raised Quick.riseIf Quick.riseAt Quick.rise Quick.refreshed Quick.refresh Quick.fresh Quick.framesAfter Quick.judged Quick.openingFrom Quick.opening Quick.over Quick.newcomer Quick.queueAfter Quick.outAfter Quick.opens Quick.cutIf Quick.cut Quick.moved Quick.stay Quick.wentIf Quick.closingFrom Quick.closingAt Quick.closing Quick.closes
+unfolding runRight cases p1 p3 p5 p6 p8 r1 three sameNodes sameAll quiet runs begun planned acts
 table = tt
 
 -- the opening of a d after the events es, with room for two
@@ -120,10 +133,11 @@ overAt : List Event → Bool
 overAt es = Quick.over 2 (reached P es begun) (Quick.opening P 4 (reached P es begun))
   where
     P : Plan.Plan
-    P = Plan.plan (r1 .query)
+    P = planned (r1 .query)
 
 one-too-many :
-    overAt (opens 5 ∷ []) ∷ overAt (opens 5 ∷ opens 4 ∷ closes 4 ∷ []) ∷ overAt (opens 5 ∷ opens 4 ∷ closes 4 ∷ opens 4 ∷ closes 4 ∷ []) ∷ []
+    overAt (opens 5 ∷ []) ∷ overAt (opens 5 ∷ opens 4 ∷ closes 4 ∷ [])
+    ∷ overAt (opens 5 ∷ opens 4 ∷ closes 4 ∷ opens 4 ∷ closes 4 ∷ []) ∷ []
     ≡ false ∷ false ∷ true ∷ []
-unfolding overAt reached r1 three runs quickAct begun quickOpen quickClose passes allStep hangs goesDeep mainIf mainPath start member covers overlaps maskOf keepIf keep predicateIf predicates backPath order at mask Plan.plan Plan.named Plan.meets Plan.lift Plan.turn Plan.lastGiven Plan.upIf Plan.up Quick.metAt Quick.sureAt Quick.possAt Quick.certainIf Quick.certain Quick.countedIf Quick.counted Quick.raised Quick.riseIf Quick.riseAt Quick.rise Quick.refreshed Quick.refresh Quick.fresh Quick.framesAfter Quick.judged Quick.openingFrom Quick.opening Quick.over Quick.newcomer Quick.queueAfter Quick.outAfter Quick.opens Quick.cutIf Quick.cut Quick.moved Quick.stay Quick.wentIf Quick.closingFrom Quick.closingAt Quick.closing Quick.closes
+unfolding overAt reached r1 three begun planned acts
 one-too-many = refl

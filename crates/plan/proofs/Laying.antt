@@ -125,7 +125,8 @@ laid-order : (q : List ℕ) (n : ℕ) → laid q 0 n ≡ orderOf q n
 unfolding laid orderOf order backPath
 laid-order q n =
     let Q = decodeFrom q n 0 in
-    let long : mostSteps - (0 + n) ≡ mostSteps - length (numbersOf (order Q)) = omega (arith, length-map (order Q) before, order-length Q, from-length q n 0) in
+    let long : mostSteps - (0 + n) ≡ mostSteps - length (numbersOf (order Q)) =
+    omega (arith, length-map (order Q) before, order-length Q, from-length q n 0) in
     sym (append-assoc (numbersOf (backPath Q)) (numbersOf (predicates Q 1)) _)
     ∙ ap₂ (λ xs k. xs ++ zeros k) (sym (map-append before (backPath Q) (predicates Q 1))) long
 

@@ -1,3 +1,11 @@
+-- What the proofs of the plan's functions share.
+--
+--   Bytes      the bytes of a step's record
+--   Filling    the loop that fills slots
+--   Laying     the loop that gives the steps their places
+--   Made       what the parts of a plan come to
+--
+-- Assumes nothing.
 pub mod Bytes
 pub mod Filling
 pub mod Laying

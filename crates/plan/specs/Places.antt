@@ -53,7 +53,9 @@ pub record PlanRight (q : Query) (P : Of.Plan) : Type 0 where
   pub sets : length (P .hung) ≡ length q
   pub name : {t : ℕ} {p : Numbered} → StandsAt (order q) t p → getD (P .tests) t 0 ≡ p .step .name
   -- the predicate steps that hang on a step
-  pub hung : {t u : ℕ} {p r : Numbered} → StandsAt (order q) t p → StandsAt (order q) u r → member (getD (P .hung) t 0) u ≡ hangs (r .step) (p .number)
+  pub hung :
+      {t u : ℕ} {p r : Numbered} → StandsAt (order q) t p → StandsAt (order q) u r →
+      member (getD (P .hung) t 0) u ≡ hangs (r .step) (p .number)
   pub deep : {t : ℕ} {p : Numbered} → StandsAt (order q) t p → member (P .deep) t ≡ goesDeep (p .step .axis)
   pub main : (t : ℕ) → member (P .main) t ≡ ltb t (mains q)
   -- no predicate hangs on it

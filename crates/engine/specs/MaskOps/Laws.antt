@@ -20,10 +20,10 @@ use Rattle.meaning.specs.Document.{Node, Doc, opened, closed}
 use Rattle.meaning.specs.Selection as Selection
 use Rattle.meaning.specs.Selection.{Ready, given}
 use Rattle.meaning.specs.Standing.{listed}
-use Rattle.sets.specs.Set.{lit, member, join, meet, covers, overlaps, maskOf}
+use Rattle.sets.specs.Set.{lit, member, join, meet, without, covers, overlaps, maskOf}
 use Rattle.sets.specs.Set.Laws.{member-meet, member-one, same-members}
 use Rattle.sets.specs.Set.Order.{overlaps-one}
-use Rattle.sets.specs.Set.Algebra.{meet-assoc}
+use Rattle.sets.specs.Set.Algebra.{meet-assoc, joined-without, met-without}
 use Rattle.plan.specs.Any.{sets-ext, any-cong}
 use Rattle.engine.specs.Every.{every-map}
 use Rattle.engine.specs.Need as Need
@@ -37,6 +37,7 @@ use Rattle.plan.specs.Order.Mask.{member-mask, at-and, mask-join, mask-meet, ma
 use Rattle.plan.specs.Order.All.{path-main, any-main, all-order, main-mask}
 use Rattle.plan.specs.Order.Path.{Linked, path-linked, givenAt, given-first, given-shift, wantedAt, wanted-first, wanted-shift, first-alone, lastMain-positive}
 use Rattle.plan.specs.Plan.{Plan, plan, named, meets, lift, turn, lastGiven, upIf}
+use Rattle.plan.specs.Plan.Laws.{meets-predicates}
 use Rattle.engine.specs.MaskOps.{value, up, maskOps, needMask, masks, maskState}
 
 module _ (q : Query) where
@@ -59,16 +60,27 @@ module _ (q : Query) where
   unfolding plan
   hung-mask K = sym (maskOf-listed _ (order q) (λ p. mask (order q) (λ t i. hangs t (p .number))) 0 (covers K) _ size (λ p. refl))
 
-  meets-mask : (x : Node) (K : Steps) → mask (order q) (Selection.meets q false x K) ≡ meets P (named P (x .name)) (mask (order q) K)
+  meets-whole : (x : Node) (K : Steps) → mask (order q) (Selection.meets q false x K) ≡ meets P (named P (x .name)) (mask (order q) K)
   unfolding meets Selection.meets
-  meets-mask x K =
+  meets-whole x K =
       mask-meet (order q) (Selection.named x) _
       ∙ meet-comm (mask (order q) (Selection.named x)) _
       ∙ ap₂ meet (ap (mask (order q)) (sets-ext (λ st s. all-order q (λ t i. hangs t s) K)) ∙ hung-mask (mask (order q) K)) (named-mask x)
 
-  empty-mask : mask (order q) Selection.empty ≡ 0
+  -- what is below, of which the predicate steps are kept
+  abbrev below : Steps → ℕ
+  below = masks q .below
+
+  meets-mask : (x : Node) (K : Steps) → mask (order q) (Selection.meets q false x K) ≡ meets P (named P (x .name)) (below K)
+  meets-mask x K = meets-whole x K ∙ sym (meets-predicates q (named P (x .name)) (mask (order q) K))
+
+  none-mask : mask (order q) Selection.empty ≡ 0
   unfolding Selection.empty
-  empty-mask = mask-none (order q)
+  none-mask = mask-none (order q)
+
+  empty-mask : below Selection.empty ≡ 0
+  unfolding without
+  empty-mask = ap (λ m. without m (P .main)) none-mask
 
   plain-mask :
       (x : Node) → mask (order q) (Selection.meets q false x Selection.empty) ≡ meet (mask (order q) (Selection.named x)) (P .plain)
@@ -80,20 +92,22 @@ module _ (q : Query) where
 
   pub meets-plain : (x : Node) → meets P (named P (x .name)) 0 ≡ meet (named P (x .name)) (P .plain)
   meets-plain x =
-      ap (meets P (named P (x .name))) (sym empty-mask)
-      ∙ sym (meets-mask x Selection.empty)
+      ap (meets P (named P (x .name))) (sym none-mask)
+      ∙ sym (meets-whole x Selection.empty)
       ∙ plain-mask x
       ∙ ap (λ m. meet m (P .plain)) (named-mask x)
 
-  join-mask : (A B : Steps) → mask (order q) (Selection.join A B) ≡ join (mask (order q) A) (mask (order q) B)
+  join-mask : (A B : Steps) → below (Selection.join A B) ≡ join (below A) (below B)
   unfolding Selection.join
-  join-mask A B = mask-join (order q) A B
+  join-mask A B =
+      ap (λ m. without m (P .main)) (mask-join (order q) A B) ∙ joined-without (mask (order q) A) (mask (order q) B) (P .main)
 
-  lift-mask : (M K : Steps) → mask (order q) (Selection.lift M K) ≡ lift P (mask (order q) M) (mask (order q) K)
+  lift-mask : (M K : Steps) → below (Selection.lift M K) ≡ lift P (mask (order q) M) (below K)
   unfolding Selection.lift lift plan
   lift-mask M K =
-      mask-join (order q) M _
-      ∙ ap (join (mask (order q) M)) (mask-meet (order q) (λ st i. goesDeep (st .axis)) K ∙ meet-comm (P .deep) (mask (order q) K))
+      ap (λ m. without m (P .main)) (mask-join (order q) M _ ∙ ap (join (mask (order q) M)) (mask-meet (order q) _ K))
+      ∙ joined-without (mask (order q) M) (meet (P .deep) (mask (order q) K)) (P .main)
+      ∙ ap (join (without (mask (order q) M) (P .main))) (met-without (P .deep) (mask (order q) K) (P .main) ∙ meet-comm (P .deep) (below K))
 
   -- along the path
 
@@ -233,6 +247,7 @@ module _ (q : Query) where
     pub mask-hom : Hom (ops q) (maskOps P) (masks q)
     mask-hom =
         record {
+          none = none-mask;
           empty = empty-mask;
           join = join-mask;
           lift = lift-mask;

@@ -29,7 +29,8 @@ use Rattle.engine.specs.MaskOps as MaskOps
 use Rattle.engine.specs.MaskOps.Laws.{mask-close}
 use Rattle.engine.specs.Quick.{Frame, Waiting, possAt, certain, counted, Cut, cut, moved, stay, Closing, wentIf, closingFrom, closingAt, closing}
 use Rattle.engine.specs.Quick.Of.{frameShown, needShown, waitingShown, quickState}
-use Rattle.engine.specs.Quick.Lists.{front-take, past-drop, counted-hom, keep-append, keep-whole, keep-length, cut-append, cut-from, cut-hom, cut-before}
+use Rattle.engine.specs.Quick.Lists.{front-take, past-drop, counted-hom, keep-append, keep-whole, keep-length}
+use Rattle.engine.specs.Quick.Lists.{cut-append, cut-from, cut-hom, cut-before}
 use Rattle.engine.specs.Quick.Kept.{Turned, turned-masks}
 use Rattle.engine.specs.Quick.Lookup.{SoundNeed, Sound, poss-steps, certain-shown, went-counted, exact-met}
 use Rattle.engine.specs.Quick.Waits.{Own, kept-every, alive-sound, queue-layers, queue-alive, queue-sound, queue-first, close-certain, length-masks}
@@ -90,7 +91,7 @@ module _ (q : Query) (a : T (admits q)) (d : Doc) (o : T (isOpen d)) where
   abbrev P : Plan
   P = plan q
 
-  abbrev O : Ops ℕ (ReadyOf ℕ) (NeedOf ℕ)
+  abbrev O : Ops ℕ ℕ (ReadyOf ℕ) (NeedOf ℕ)
   O = maskOps P
 
   abbrev W : Type 0
@@ -300,4 +301,5 @@ module _ (q : Query) (a : T (admits q)) (d : Doc) (o : T (isOpen d)) where
       (exact-met P fs) (length-map fs (frameShown P))
       ∙ ap (λ F. closingFrom P F (map waitingShown (K .before)) from stays) (sym (map-dropLast (frameShown P) fs))
       ∙ ap (λ x. record { frames = shown H; waiting = x; went = wentIf (ltb (length stays) (length from)) P (shown H) x }) (sym ks-shown)
-      ∙ ap (λ k. record { frames = shown H; waiting = map waitingShown ks; went = k }) (went-counted (ltb (length stays) (length from)) P (shown H) (map waitingShown ks) (λ e. all-stay (whole e)))
+      ∙ ap (λ k. record { frames = shown H; waiting = map waitingShown ks; went = k })
+      (went-counted (ltb (length stays) (length from)) P (shown H) (map waitingShown ks) (λ e. all-stay (whole e)))

@@ -5,23 +5,21 @@
 --   rise-carry         what the quick engine carries up comes to the same, joined to what is met above, as all that has risen
 --   refresh-all        refreshing every frame is growing them
 --   open-frames        the frames after an open are the engine's
---   rise-length        each frame stays or has risen
 --   rise-quiet         where none has risen all stay
 --
 -- Assumes that the frames agree with one another (Kept), and that an element in whose content nothing is met meets what `plain` says.
-use Prim.Native.Nat.{ℕ, suc, _+_}
-use native.Mathlib.Omega.{arith}
+use Prim.Native.Nat.{ℕ}
 use mathlib.Core.Path.{_≡_, refl, sym, ap, _∙_}
 use mathlib.Core.Logic.{_⊎_, inl, inr}
 use mathlib.Core.Bool.{Bool, true, false}
 use mathlib.Core.List.{List, [], _∷_, _++_, map, append-assoc, cons-ne-nil}
 use lib.Bits.{or-zero-r, and-zero-l}
 use lib.Dec.{eqb}
-use lib.ListN.{length, getD, length-append}
+use lib.ListN.{length, getD}
 use borrow.Author.Tests.{eqb-true, eq-eqb}
 use Rattle.meaning.specs.Document.{Node}
 use Rattle.meaning.specs.Selection.{ReadyOf}
-use Rattle.sets.specs.Set.{join, meet}
+use Rattle.sets.specs.Set.{join, meet, without}
 use Rattle.engine.specs.Need.{NeedOf}
 use Rattle.engine.specs.Engine as Engine
 use Rattle.engine.specs.Engine.{Ops, frameOf, grow}
@@ -78,19 +76,7 @@ pub rise-even :
 unfolding rise
 rise-even P a f fs = even-at P f (rise P a fs .kept) (rise P a fs .risen) (rise P a fs .carry) (rise-stopped P a fs)
 
--- each frame stays or has risen
-
-length-if :
-    (b : Bool) (P : Plan) (f : Frame) (new n : ℕ) (r : Rise) → length (r .kept) + length (r .risen) ≡ n →
-    length (even b P f new r .kept) + length (even b P f new r .risen) ≡ suc n
-unfolding even
-length-if true P f new n r e = omega arith
-length-if false P f new n r e = let h = length-append (r .kept) (r .risen) in omega arith
-
-pub rise-length : (P : Plan) (a : ℕ) (fs : List Frame) → length (rise P a fs .kept) + length (rise P a fs .risen) ≡ length fs
-rise-length P a [] = unfold rise in refl
-rise-length P a (f ∷ fs) =
-    ap (λ r. length (r .kept) + length (r .risen)) (rise-even P a f fs) ∙ length-if _ P f _ (length fs) (rise P a fs) (rise-length P a fs)
+-- where none has risen all stay
 
 quiet-if :
     (b : Bool) (P : Plan) (f : Frame) (new : ℕ) (r : Rise) (fs : List Frame) → (r .risen ≡ [] → r .kept ≡ fs) →
@@ -109,7 +95,7 @@ rise-quiet P a (f ∷ fs) e =
 -- the frames after an open
 
 module _ (P : Plan) (y : Node) (plain : meets P (named P (y .name)) 0 ≡ meet (named P (y .name)) (P .plain)) where
-  abbrev O : Ops ℕ (ReadyOf ℕ) (NeedOf ℕ)
+  abbrev O : Ops ℕ ℕ (ReadyOf ℕ) (NeedOf ℕ)
   O = maskOps P
 
   abbrev F : Type 0
@@ -118,8 +104,12 @@ module _ (P : Plan) (y : Node) (plain : meets P (named P (y .name)) 0 ≡ meet (
   abbrev shown : List F → List Frame
   shown fs = map (frameShown P) fs
 
+  -- the predicate steps that the new element meets
+  abbrev anew : ℕ
+  anew = without (meet (named P (y .name)) (P .plain)) (P .main)
+
   abbrev risen : List F → Rise
-  risen fs = rise P (meet (named P (y .name)) (P .plain)) (shown fs)
+  risen fs = rise P anew (shown fs)
 
   abbrev lifted : F → ℕ → ℕ
   lifted f K = O .lift (O .meets (f .node) K) K
@@ -139,24 +129,24 @@ module _ (P : Plan) (y : Node) (plain : meets P (named P (y .name)) 0 ≡ meet (
   unfolding rise
   risen-even f fs = rise-even P _ (frameShown P f) (shown fs)
 
-  first-carry : meet (named P (y .name)) (P .plain) ≡ O .lift (O .meets y 0) 0
+  first-carry : anew ≡ O .lift (O .meets y 0) 0
   unfolding lift
-  first-carry = sym plain ∙ sym (ap (join (O .meets y 0)) (and-zero-l (P .deep)) ∙ or-zero-r (O .meets y 0))
+  first-carry = ap (λ m. without m (P .main)) (sym plain) ∙ sym (or-zero-r _) ∙ ap (join (without (O .meets y 0) (P .main))) (sym (and-zero-l (P .deep)))
 
   carry-step :
-      (b : Bool) (B : ℕ) (f : F) (r : Rise) (all : ℕ) → (b ≡ true → join (f .below) (r .carry) ≡ f .below) →
-      O .join B (lifted f (f .below)) ≡ B → join (f .below) (r .carry) ≡ join (f .below) all →
-      join B (after b f r .carry) ≡ join B (lifted f (join (f .below) all))
+      (b : Bool) (K : ℕ) (f : F) (r : Rise) (all : ℕ) → (b ≡ true → join (f .below) (r .carry) ≡ f .below) →
+      O .join K (lifted f (f .below)) ≡ K → join (f .below) (r .carry) ≡ join (f .below) all →
+      join K (after b f r .carry) ≡ join K (lifted f (join (f .below) all))
   unfolding even
-  carry-step true B f r all s k e = or-zero-r B ∙ sym k ∙ ap (λ x. join B (lifted f x)) (sym (s refl) ∙ e)
-  carry-step false B f r all s k e = ap (λ x. join B (lifted f x)) e
+  carry-step true K f r all s k e = or-zero-r K ∙ sym k ∙ ap (λ x. join K (lifted f x)) (sym (s refl) ∙ e)
+  carry-step false K f r all s k e = ap (λ x. join K (lifted f x)) e
 
-  pub rise-carry : {B : ℕ} {fs : List F} → Fed O B fs → join B (risen fs .carry) ≡ join B (Engine.rise O y fs)
+  pub rise-carry : {K : ℕ} {fs : List F} → Fed O K fs → join K (risen fs .carry) ≡ join K (Engine.rise O y fs)
   unfolding rise Engine.rise
-  rise-carry {B} fNil = ap (join B) first-carry
-  rise-carry (fCons {B} {f} {fs} k t) =
-      ap (λ r. join B (r .carry)) (risen-even f fs)
-      ∙ carry-step (stops f fs) B f (risen fs) (Engine.rise O y fs) (eqb-true (news f fs) (f .below)) k (rise-carry t)
+  rise-carry {K} fNil = ap (join K) first-carry
+  rise-carry (fCons {K} {f} {fs} k t) =
+      ap (λ r. join K (r .carry)) (risen-even f fs)
+      ∙ carry-step (stops f fs) K f (risen fs) (Engine.rise O y fs) (eqb-true (news f fs) (f .below)) k (rise-carry t)
 
   -- the frames that have risen, and the new one
   abbrev newest : List F → ReadyOf ℕ → Frame
@@ -189,11 +179,11 @@ module _ (P : Plan) (y : Node) (plain : meets P (named P (y .name)) 0 ≡ meet (
       p = named P (y .name)
 
   pub refresh-all :
-      {B : ℕ} {fs : List F} (s rp : ReadyOf ℕ) → Fed O B fs →
+      {K : ℕ} {fs : List F} (s rp : ReadyOf ℕ) → Fed O K fs →
       refresh P (s .steps) (whole (risen fs) (newest fs rp)) ≡ shown (grow O y s rp fs)
   unfolding grow rise
   refresh-all s rp fNil = newest-shown s rp
-  refresh-all s rp (fCons {B} {f} {fs} k t) =
+  refresh-all s rp (fCons {K} {f} {fs} k t) =
       ap (λ r. refresh P (s .steps) (whole r (newest fs (f .poss)))) (risen-even f fs)
       ∙ put-step (stops f fs) f (risen fs) s (O .join (f .below) (Engine.rise O y fs)) (newest fs (f .poss))
       (eqb-true (news f fs) (f .below)) (rise-carry t)
@@ -220,18 +210,18 @@ module _ (P : Plan) (y : Node) (plain : meets P (named P (y .name)) 0 ≡ meet (
       ∙ ap (λ x. put f x rs ∷ shown (grow O y (O .turn (O .meets (f .node) x) rs) (f .poss) fs)) e
 
   top-all :
-      {B : ℕ} {rs : ReadyOf ℕ} {fs : List F} (rp : ReadyOf ℕ) → Fed O B fs → Turned O rs fs →
+      {K : ℕ} {rs : ReadyOf ℕ} {fs : List F} (rp : ReadyOf ℕ) → Fed O K fs → Turned O rs fs →
       fromTop (rs .steps) (risen fs) (newest fs rp) ≡ shown (grow O y rs rp fs)
   unfolding grow rise
-  top-all {B} {rs} rp fNil tNil = newest-shown rs rp
-  top-all {B} {rs} rp (fCons {f} {fs} k t) (tCons e u) =
+  top-all {K} {rs} rp fNil tNil = newest-shown rs rp
+  top-all {K} {rs} rp (fCons {f} {fs} k t) (tCons e u) =
       ap (λ r. fromTop (rs .steps) r (newest fs (f .poss))) (risen-even f fs)
       ∙ top-step (stops f fs) f (risen fs) (rs .steps) (newest fs (f .poss)) _
       (λ z. ap (_∷_ (frameShown P f)) (top-all (f .poss) t u) ∙ same-frame f rs _ fs (sym (eqb-true (news f fs) (f .below) z) ∙ rise-carry t) e)
-      (sym (ap (λ r. refresh P (rs .steps) (whole r (newest fs (f .poss)))) (risen-even f fs)) ∙ refresh-all rs rp (fCons {B = B} {f = f} k t))
+      (sym (ap (λ r. refresh P (rs .steps) (whole r (newest fs (f .poss)))) (risen-even f fs)) ∙ refresh-all rs rp (fCons {K = K} {f = f} k t))
 
   pub open-frames :
-      {B : ℕ} {fs : List F} → Fed O B fs → Turned O (O .start) fs →
+      {K : ℕ} {fs : List F} → Fed O K fs → Turned O (O .start) fs →
       framesAfter P (y .name) (shown fs) (risen fs) ≡ shown (grow O y (O .start) (O .start) fs)
   unfolding framesAfter sureAt possAt
   open-frames t u = top-all (O .start) t u

@@ -1,6 +1,6 @@
 -- Frames that agree with one another, as those of a document do: the reason why what has not changed need not be computed again.
 --
---   Fed O B fs         under an element with B met in it: what each frame comes to has been joined to what is met above it
+--   Fed O K fs         under an element with K met in it: what each frame comes to has been joined to what is met above it
 --   Turned O r fs      in the sure reading each frame is read with the turn of the one above, the first with r's
 --   fed-masks, turned-masks      the frames of a document agree so, in masks
 --
@@ -18,22 +18,21 @@ use Rattle.engine.specs.Need.{NeedOf}
 use Rattle.engine.specs.Engine.{Ops, Frame}
 use Rattle.engine.specs.StateOf.{ops, framesOf, framesAt, stateOf}
 use Rattle.engine.specs.Hom.{Coat, frameIn, Hom}
-use Rattle.plan.specs.Order.{order, mask}
 use Rattle.plan.specs.Plan.{plan}
 use Rattle.engine.specs.MaskOps.{maskOps, masks, maskState}
 use Rattle.engine.specs.MaskOps.Laws.{mask-hom}
 
-module _ {S R N : Type 0} (O : Ops S R N) where
-  pub data Fed : S → List (Frame S R) → Type 0 where
-    fNil : {B : S} → Fed B []
+module _ {S B R N : Type 0} (O : Ops S B R N) where
+  pub data Fed : B → List (Frame B R) → Type 0 where
+    fNil : {K : B} → Fed K []
     fCons :
-        {B : S} {f : Frame S R} {fs : List (Frame S R)} → O .join B (O .lift (O .meets (f .node) (f .below)) (f .below)) ≡ B →
-        Fed (f .below) fs → Fed B (f ∷ fs)
+        {K : B} {f : Frame B R} {fs : List (Frame B R)} → O .join K (O .lift (O .meets (f .node) (f .below)) (f .below)) ≡ K →
+        Fed (f .below) fs → Fed K (f ∷ fs)
 
-  pub data Turned : R → List (Frame S R) → Type 0 where
+  pub data Turned : R → List (Frame B R) → Type 0 where
     tNil : {r : R} → Turned r []
     tCons :
-        {r : R} {f : Frame S R} {fs : List (Frame S R)} → f .sure ≡ O .turn (O .meets (f .node) (f .below)) r →
+        {r : R} {f : Frame B R} {fs : List (Frame B R)} → f .sure ≡ O .turn (O .meets (f .node) (f .below)) r →
         Turned (f .sure) fs → Turned r (f ∷ fs)
 
 -- of a document
@@ -59,26 +58,27 @@ turned-of q (within p x d) rs rp = tCons refl (turned-of q d _ _)
 
 -- in another coat
 
-module _ {S R N S′ R′ N′ : Type 0} (O : Ops S R N) (P : Ops S′ R′ N′) (k : Coat S R N S′ R′ N′) (h : Hom O P k) where
-  fed-hom : {B : S} {fs : List (Frame S R)} → Fed O B fs → Fed P (k .set B) (map (frameIn k) fs)
+module _
+    {S B R N S′ B′ R′ N′ : Type 0} (O : Ops S B R N) (P : Ops S′ B′ R′ N′) (k : Coat S B R N S′ B′ R′ N′) (h : Hom O P k) where
+  fed-hom : {K : B} {fs : List (Frame B R)} → Fed O K fs → Fed P (k .below K) (map (frameIn k) fs)
   fed-hom fNil = fNil
-  fed-hom (fCons {B} {f} e t) =
+  fed-hom (fCons {K} {f} e t) =
       fCons
-      (ap (P .join (k .set B)) (sym (h .lift _ _ ∙ ap (λ x. P .lift x (k .set (f .below))) (h .meets (f .node) (f .below))))
-      ∙ sym (h .join B _)
-      ∙ ap (k .set) e)
+      (ap (P .join (k .below K)) (sym (h .lift _ _ ∙ ap (λ x. P .lift x (k .below (f .below))) (h .meets (f .node) (f .below))))
+      ∙ sym (h .join K _)
+      ∙ ap (k .below) e)
       (fed-hom t)
 
-  turned-hom : {r : R} {fs : List (Frame S R)} → Turned O r fs → Turned P (k .ready r) (map (frameIn k) fs)
+  turned-hom : {r : R} {fs : List (Frame B R)} → Turned O r fs → Turned P (k .ready r) (map (frameIn k) fs)
   turned-hom tNil = tNil
   turned-hom (tCons {r} {f} e t) =
       tCons (ap (k .ready) e ∙ h .turn _ r ∙ ap (λ x. P .turn x (k .ready r)) (h .meets (f .node) (f .below))) (turned-hom t)
 
 module _ (q : Query) (a : T (admits q)) (d : Doc) where
-  abbrev O : Ops ℕ (ReadyOf ℕ) (NeedOf ℕ)
+  abbrev O : Ops ℕ ℕ (ReadyOf ℕ) (NeedOf ℕ)
   O = maskOps (plan q)
 
-  pub fed-masks : Fed O (mask (order q) (met q sure-reading d)) (maskState q d .frames)
+  pub fed-masks : Fed O (masks q .below (met q sure-reading d)) (maskState q d .frames)
   unfolding maskState stateOf framesAt
   fed-masks = fed-hom (ops q) O (masks q) (mask-hom q a) (fed-of q d start start)
 

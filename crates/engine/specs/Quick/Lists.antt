@@ -4,8 +4,9 @@
 --   counted-hom, counted-same  the count, along a map; by a test that agrees
 --   counted-none               it is 0 where the first does not pass
 --   snoc-queue                 one more node at the end: all go, or those counted
---   keep-append, keep-whole, keep-length     what is kept of two lists, of a list that passes, of a list that gets no shorter
---   cut-append, cut-from, cut-hom            a cut list put together, its end, a cut along a map
+--   keep-append, keep-whole    what is kept of two lists, of a list that passes
+--   keep-le, keep-length       no more is kept than there is; all is where the list gets no shorter
+--   cut-append, cut-from, cut-hom     a cut list put together, its end, a cut along a map
 --   Layers level hi lo xs      along xs levels rise, from lo on and up to hi
 --   cut-before                 then what stands before the end at level hi is below hi
 --   layers-low                 and every level is at most hi
@@ -83,7 +84,8 @@ module _ {A : Type 0} (c : A → Bool) (n : A) where
 
   some-step :
       (b : Bool) (x : A) (xs : List A) → (eqb (countedIf b (counted c xs)) (suc (length xs)) && c n) ≡ false →
-      (Goes xs ≡ false → (front c (xs ++ (n ∷ [])) ≡ take (counted c xs) xs) × (past c (xs ++ (n ∷ [])) ≡ drop (counted c xs) xs ++ (n ∷ []))) →
+      (Goes xs ≡ false →
+      (front c (xs ++ (n ∷ [])) ≡ take (counted c xs) xs) × (past c (xs ++ (n ∷ [])) ≡ drop (counted c xs) xs ++ (n ∷ []))) →
       (frontIf b x (front c (xs ++ (n ∷ []))) ≡ take (countedIf b (counted c xs)) (x ∷ xs))
       × (pastIf b (x ∷ (xs ++ (n ∷ []))) (past c (xs ++ (n ∷ []))) ≡ drop (countedIf b (counted c xs)) (x ∷ xs) ++ (n ∷ []))
   unfolding countedIf frontIf pastIf
@@ -126,15 +128,15 @@ module _ {A : Type 0} (p : A → Bool) where
   keep-whole eNil = refl
   keep-whole (eCons {x} {xs} e t) = ap (λ b. keepIf b x (keep p xs)) e ∙ ap (_∷_ x) (keep-whole t)
 
-  less-if : (b : Bool) (x : A) (r : List A) (n : ℕ) → length r ≤ n → length (keepIf b x r) ≤ suc n
+  keep-le-if : (b : Bool) (x : A) (r : List A) (n : ℕ) → length r ≤ n → length (keepIf b x r) ≤ suc n
   unfolding keepIf
-  less-if true x r n h = omega arith
-  less-if false x r n h = omega arith
+  keep-le-if true x r n h = omega arith
+  keep-le-if false x r n h = omega arith
 
-  less : (xs : List A) → length (keep p xs) ≤ length xs
+  pub keep-le : (xs : List A) → length (keep p xs) ≤ length xs
   unfolding keep
-  less [] = le-refl 0
-  less (x ∷ xs) = less-if (p x) x (keep p xs) (length xs) (less xs)
+  keep-le [] = le-refl 0
+  keep-le (x ∷ xs) = keep-le-if (p x) x (keep p xs) (length xs) (keep-le xs)
 
   whole-if :
       (b : Bool) (x : A) (r xs : List A) → length r ≤ length xs → (length xs ≤ length r → r ≡ xs) →
@@ -146,7 +148,7 @@ module _ {A : Type 0} (p : A → Bool) where
   pub keep-length : (xs : List A) → length xs ≤ length (keep p xs) → keep p xs ≡ xs
   unfolding keep
   keep-length [] e = refl
-  keep-length (x ∷ xs) e = whole-if (p x) x (keep p xs) xs (less xs) (keep-length xs) e
+  keep-length (x ∷ xs) e = whole-if (p x) x (keep p xs) xs (keep-le xs) (keep-length xs) e
 
 -- cutting
 

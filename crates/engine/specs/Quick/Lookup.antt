@@ -48,8 +48,8 @@ module _ (P : Plan) where
 
   -- in one reading: of a frame, `get` in the engine is `got` in the quick engine
   steps-at :
-      (get : F → ReadyOf ℕ) (got : Frame → ℕ) → ((f : F) → get f .steps ≡ got (frameShown P f)) → (r d : ReadyOf ℕ) (fs : List F) (l : ℕ) →
-      l ≤ length fs → getD (r ∷ map get fs) l d .steps ≡ getD (r .steps ∷ map got (shown fs)) l 0
+      (get : F → ReadyOf ℕ) (got : Frame → ℕ) → ((f : F) → get f .steps ≡ got (frameShown P f)) →
+      (r d : ReadyOf ℕ) (fs : List F) (l : ℕ) → l ≤ length fs → getD (r ∷ map get fs) l d .steps ≡ getD (r .steps ∷ map got (shown fs)) l 0
   steps-at get got same r d fs zero h = refl
   steps-at get got same r d [] (suc l) h = absurd (omega arith)
   steps-at get got same r d (f ∷ fs) (suc l) h =

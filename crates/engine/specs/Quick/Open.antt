@@ -11,14 +11,14 @@ use mathlib.Core.Path.{_≡_, refl, sym, ap, ap₂, _∙_, subst}
 use mathlib.Core.Bool.{Bool, true, false, _&&_}
 use mathlib.Core.List.{List, [], _∷_, _++_, map, map-map, map-append}
 use lib.Dec.{T, eqb, ltb}
-use lib.ListN.{length, getD, length-map, List·getD-append}
+use lib.ListN.{length, getD, length-map, length-append, List·getD-append}
 use lib.Seq.{getD-at}
 use borrow.Author.Tests.{ltb-false}
 use Rattle.meaning.specs.Logic.{Imp, Both, bCons}
 use Rattle.meaning.specs.Query.{Query, admits}
 use Rattle.meaning.specs.Document.{Node, Doc, opened}
 use Rattle.meaning.specs.Selection.{ReadyOf}
-use Rattle.sets.specs.Set.{meet, overlaps}
+use Rattle.sets.specs.Set.{meet, without, overlaps}
 use Rattle.engine.specs.Every.{Every, eNil, eCons, every-head, every-map, every-both, every-append, every-right, every-mapped}
 use Rattle.engine.specs.Need.{NeedOf, Need}
 use Rattle.engine.specs.Engine as Engine
@@ -30,28 +30,31 @@ use Rattle.engine.specs.StateOf.Theorem.{nodes-open}
 use Rattle.plan.specs.Plan.{Plan, plan, named, meets, turn, lastGiven}
 use Rattle.engine.specs.MaskOps.{value, maskOps, masks, maskState}
 use Rattle.engine.specs.MaskOps.Laws.{meets-plain, mask-hom, mask-open}
-use Rattle.engine.specs.Quick.{Frame, Waiting, metAt, sureAt, possAt, certainIf, certain, counted, Rise, rise, refreshed, refresh, fresh, framesAfter, Opening, wentIf, judged, openingFrom, opening, newcomer, queueAfter, outAfter}
+use Rattle.engine.specs.Quick.{Frame, Waiting, metAt, sureAt, possAt, certainIf, certain, counted}
+use Rattle.engine.specs.Quick.{Rise, rise, refreshed, refresh, fresh, framesAfter}
+use Rattle.engine.specs.Quick.{Opening, wentIf, judged, openingFrom, opening, newcomer, queueAfter, outAfter}
 use Rattle.engine.specs.Quick.Of.{frameShown, waitingShown, quickState}
 use Rattle.engine.specs.Quick.Lists.{counted-hom, counted-same, snoc-queue, keep-append, keep-whole}
 use Rattle.engine.specs.Quick.Kept.{fed-masks, Turned, turned-masks}
 use Rattle.engine.specs.Quick.Lookup.{Sound, poss-steps, certain-shown, went-counted}
-use Rattle.engine.specs.Quick.Grow.{open-frames, rise-length, rise-quiet}
+use Rattle.engine.specs.Quick.Snoc.{rise-length}
+use Rattle.engine.specs.Quick.Grow.{open-frames, rise-quiet}
 use Rattle.engine.specs.Quick.Waits.{queue-alive, queue-low, queue-sound, queue-first}
 
 -- the grown frames
 
-module _ {S R N : Type 0} (O : Ops S R N) (y : Node) where
-  length-grow : (rs rp : R) (fs : List (Engine.Frame S R)) → length (grow O y rs rp fs) ≡ suc (length fs)
+module _ {S B R N : Type 0} (O : Ops S B R N) (y : Node) where
+  length-grow : (rs rp : R) (fs : List (Engine.Frame B R)) → length (grow O y rs rp fs) ≡ suc (length fs)
   unfolding grow
   length-grow rs rp [] = refl
   length-grow rs rp (f ∷ fs) = ap suc (length-grow _ _ fs)
 
-  newPoss : R → R → List (Engine.Frame S R) → R
+  newPoss : R → R → List (Engine.Frame B R) → R
   newPoss d rp fs = O .turn (O .named y) (getD (rp ∷ map (λ f. f .poss) fs) (length fs) d)
 
   -- the elements around the new one are read as before in the open reading
   grow-poss :
-      (d rs rp : R) (fs : List (Engine.Frame S R)) →
+      (d rs rp : R) (fs : List (Engine.Frame B R)) →
       map (λ f. f .poss) (grow O y rs rp fs) ≡ map (λ f. f .poss) fs ++ (newPoss d rp fs ∷ [])
   unfolding grow newPoss
   grow-poss d rs rp [] = refl
@@ -99,7 +102,7 @@ module _ (q : Query) (a : T (admits q)) (y : Node) (d : Doc) where
   abbrev P : Plan
   P = plan q
 
-  abbrev O : Ops ℕ (ReadyOf ℕ) (NeedOf ℕ)
+  abbrev O : Ops ℕ ℕ (ReadyOf ℕ) (NeedOf ℕ)
   O = maskOps P
 
   abbrev shown : List (Engine.Frame ℕ (ReadyOf ℕ)) → List Frame
@@ -240,8 +243,11 @@ module _ (q : Query) (a : T (admits q)) (y : Node) (d : Doc) where
 
   -- what the quick engine decides
 
+  abbrev anew : ℕ
+  anew = without (meet (named P (y .name)) (P .plain)) (P .main)
+
   abbrev R : Rise
-  R = rise P (meet (named P (y .name)) (P .plain)) (shown fs)
+  R = rise P anew (shown fs)
 
   frames-shown : framesAfter P (y .name) (shown fs) R ≡ shown G
   frames-shown = open-frames P y (meets-plain q y) (fed-masks q a d) (turned-masks q a d)
@@ -269,9 +275,9 @@ module _ (q : Query) (a : T (admits q)) (y : Node) (d : Doc) where
 
   none-risen : ltb (length (R .kept)) (length (shown fs)) ≡ false → R .risen ≡ []
   none-risen e =
-      let all = rise-length P (meet (named P (y .name)) (P .plain)) (shown fs) in
+      let all = rise-length P anew (shown fs) in
       let h : length (shown fs) ≤ length (R .kept) = ltb-false (length (R .kept)) (length (shown fs)) e in
-      no-length (R .risen) (omega arith)
+      no-length (R .risen) (omega (arith, length-append (R .kept) (R .risen)))
 
   abbrev pub decided : Opening
   decided = record { frames = shown G; went = counted c Q; all = all; joins = alive O G new }
@@ -280,5 +286,6 @@ module _ (q : Query) (a : T (admits q)) (y : Node) (d : Doc) where
   unfolding opening openingFrom quickState judged
   opening-is =
       ap (λ F. judged P (y .name) (quickState q d) F (wentIf (ltb (length (R .kept)) (length (shown fs))) P F Q)) frames-shown
-      ∙ ap (judged P (y .name) (quickState q d) (shown G)) (went-counted (ltb (length (R .kept)) (length (shown fs))) P (shown G) Q (λ e. quiet (none-risen e)))
+      ∙ ap (judged P (y .name) (quickState q d) (shown G))
+      (went-counted (ltb (length (R .kept)) (length (shown fs))) P (shown G) Q (λ e. quiet (none-risen e)))
       ∙ ap₂ (λ x b. record { frames = shown G; went = counted c Q; all = eqb (counted c Q) (length Q) && x; joins = b }) (sym certain-new) (sym alive-new)

@@ -51,7 +51,8 @@ module _ (q : Query) (d : Doc) where
   quick-depth = length-map (maskState q d .frames) (frameShown (plan q)) ∙ length-masks q d
 
 pub quick-begun : (q : Query) → quickState q blank ≡ begun
-unfolding quickState begun maskState stateOf framesAt framesOf nodes number places needs keep past count countRow finished listed listedFrom standings standingsOf selections marks marksRow
+unfolding quickState begun maskState stateOf framesAt framesOf nodes number places needs keep past count countRow finished
+    listed listedFrom standings standingsOf selections marks marksRow
 quick-begun q = refl
 
 name-at :
@@ -89,7 +90,9 @@ pub quick-met : (q : Query) (d : Doc) (w l : ℕ) → length q ≤ w → metAt (
 unfolding quickState metAt
 quick-met q d w l h =
     under-at (2 ^ w) (pow-pos w)
-    (eCons (pow-pos w) (every-mapped (λ f. f .met) (every-mapped (frameShown (plan q)) (every-all (λ f. lt-of-lt-of-le (met f) (pow-mono h)) (maskState q d .frames))))) l
+    (eCons (pow-pos w)
+    (every-mapped (λ f. f .met)
+    (every-mapped (frameShown (plan q)) (every-all (λ f. lt-of-lt-of-le (met f) (pow-mono h)) (maskState q d .frames))))) l
   where
     met : (f : Engine.Frame ℕ (ReadyOf ℕ)) → frameShown (plan q) f .met < 2 ^ length q
     met f = subst (λ n. frameShown (plan q) f .met < 2 ^ n) (plan-size q) (meets-under (plan q) _ (f .below))

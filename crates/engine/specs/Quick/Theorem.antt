@@ -44,8 +44,11 @@ handed-on q d d′ out ws e k =
     ap (λ n. length (listed q d) + n) (sym (ap length k ∙ length-map ws _)) ∙ sym (length-append (listed q d) out) ∙ ap length e
 
 same-state :
-    {fs fs′ : List Frame} {ws ws′ : List Waiting} {k k′ h h′ : ℕ} {e e′ : Bool} → fs ≡ fs′ → ws ≡ ws′ → k ≡ k′ → h ≡ h′ → e ≡ e′ →
-    _≡_ {A = State} (record { frames = fs; queue = ws; opened = k; handed = h; ended = e }) (record { frames = fs′; queue = ws′; opened = k′; handed = h′; ended = e′ })
+    {fs fs′ : List Frame} {ws ws′ : List Waiting} {k k′ h h′ : ℕ} {e e′ : Bool} →
+    fs ≡ fs′ → ws ≡ ws′ → k ≡ k′ → h ≡ h′ → e ≡ e′ →
+    _≡_ {A = State}
+    (record { frames = fs; queue = ws; opened = k; handed = h; ended = e })
+    (record { frames = fs′; queue = ws′; opened = k′; handed = h′; ended = e′ })
 same-state p q r s t = λ i. record { frames = p i; queue = q i; opened = r i; handed = s i; ended = t i }
 
 finished-open : (y : Node) (d : Doc) → false ≡ finished (opened y d)

@@ -196,7 +196,7 @@ queue-layers q d =
     (layers-past _ _ _ (layers-keep _ _ _ (layers-number 1 (places-layers q d))))
 
 module _ (q : Query) (a : T (admits q)) (d : Doc) where
-  abbrev O : Ops ℕ (ReadyOf ℕ) (NeedOf ℕ)
+  abbrev O : Ops ℕ ℕ (ReadyOf ℕ) (NeedOf ℕ)
   O = maskOps (plan q)
 
   pub queue-alive : Every (λ w. alive O (maskState q d .frames) w ≡ true) (maskState q d .queue)

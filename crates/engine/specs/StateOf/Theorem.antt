@@ -10,7 +10,7 @@ use native.Mathlib.Nat.{add-suc, suc-add, zero-add}
 use native.Mathlib.Numerals.{add-one}
 use mathlib.Core.Path.{_≡_, refl, sym, ap, ap₂, _∙_}
 use mathlib.Core.List.{List, [], _∷_, _++_, map, map-id, append-nil, dropLast}
-use lib.ListN.{length, length-map, length-append}
+use lib.ListN.{length}
 use Rattle.meaning.specs.Logic.{Imp, Pmi, Pre, both-pre}
 use Rattle.meaning.specs.Query.{Query, Steps}
 use Rattle.meaning.specs.Document.{Node, Doc, opened, closed, count}
@@ -19,7 +19,8 @@ use Rattle.meaning.specs.Selection.{sure-reading, open-reading, Ready, start, s
 use Rattle.meaning.specs.Selection.Laws.{sure-open, sure-close, possible-open, possible-close}
 use Rattle.meaning.specs.Standing.{listed}
 use Rattle.engine.specs.Need.{Need, itself}
-use Rattle.engine.specs.Engine.{Frame, Place, Waiting, State, keep, front, past, grow, certain, alive, settle, newcomer, openModel, exact, move, moveWaiting, closeModel}
+use Rattle.engine.specs.Engine.{Frame, Place, Waiting, State, keep, front, past, grow, certain, alive, settle}
+use Rattle.engine.specs.Engine.{newcomer, openModel, exact, move, moveWaiting, closeModel}
 use Rattle.engine.specs.Queue.{Steady, steady, past-later, front-later}
 use Rattle.engine.specs.StateOf.{ops, framesOf, places, number, numberOf, framesAt, nodes, stateOf}
 use Rattle.engine.specs.StateOf.Frames.{frames-open, frames-close, length-frames}

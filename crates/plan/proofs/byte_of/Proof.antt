@@ -1,4 +1,4 @@
--- `byte_of` reads a byte of a step's record, 0 past the end of the query. Assumes nothing.
+-- `byte_of` reads a byte of a step's record, 0 past the end of the query. Shown on each side of its branch, by Bytes. Assumes nothing.
 use Rattle.plan.proofs.Bytes.{byte-in, byte-out}
 use borrow.Author.Needs.{needs}
 use native.Mathlib.Omega.{arith}

@@ -1,4 +1,5 @@
--- `goes_deep` is whether the axis that the byte names goes deep; a byte that names none is taken as child. Assumes nothing.
+-- `goes_deep` is whether the axis that the byte names goes deep; a byte that names none is taken as child. Shown for each arm, from the axis
+-- that the callee promises. Assumes nothing.
 use mathlib.Core.Path.{sym, ap, _∙_}
 use borrow.Author.Needs.{needs}
 use Rattle.meaning.specs.Query.{goesDeep}

@@ -1,4 +1,5 @@
--- `hangs_on` is whether the step is in a predicate and hangs on the step with `on` steps before it. Assumes nothing.
+-- `hangs_on` is whether the step is in a predicate and hangs on the step with `on` steps before it. Shown on each side of its branch, from
+-- the bytes that the callees promise. Assumes nothing.
 use Prim.Native.Nat.{_+_}
 use mathlib.Core.Path.{ap, sym, _∙_}
 use lib.Dec.{eqb}

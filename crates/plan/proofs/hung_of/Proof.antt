@@ -1,4 +1,5 @@
--- `hung_of` puts the set of the predicate steps that hang on the step at each place into its slot. Assumes nothing.
+-- `hung_of` puts the set of the predicate steps that hang on the step at each place into its slot. The invariant: the slots under `place`
+-- are filled so, the others are 0. Assumes nothing.
 use Prim.Native.Nat.{_+_, _-_, _≤_}
 use native.Mathlib.Omega.{arith}
 use mathlib.Core.Path.{_≡_}

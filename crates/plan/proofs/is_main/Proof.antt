@@ -1,4 +1,4 @@
--- `is_main` is whether the step is on the main path. Assumes nothing.
+-- `is_main` is whether the step is on the main path: by definition, from the byte that the callee promises. Assumes nothing.
 use mathlib.Core.Path.{ap}
 use lib.Dec.{eqb}
 use borrow.Author.Needs.{needs}

@@ -1,4 +1,5 @@
--- `is_start` is whether the step is on the main path and hangs on the document. Assumes nothing.
+-- `is_start` is whether the step is on the main path and hangs on the document. Shown on each side of its branch, from the bytes that the
+-- callees promise. Assumes nothing.
 use mathlib.Core.Path.{ap, sym, _∙_}
 use lib.Dec.{eqb}
 use borrow.Author.Needs.{needs}

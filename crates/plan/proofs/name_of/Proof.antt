@@ -1,4 +1,4 @@
--- `name_of` is the step's name test. Assumes nothing.
+-- `name_of` is the step's name test: by definition, from the two bytes that the callee promises. Assumes nothing.
 use borrow.Author.Needs.{needs}
 use Rattle.query.specs.Decode.{decodeStep}
 use Rattle.plan.proofs.name_of.Statement.{statement}

@@ -1,4 +1,5 @@
--- `names_of` puts the name test of the step at each place into its slot. Assumes nothing.
+-- `names_of` puts the name test of the step at each place into its slot. The invariant: the slots under `place` are filled so, the others
+-- are 0. Assumes nothing.
 use Prim.Native.Nat.{_-_, _≤_}
 use native.Mathlib.Omega.{arith}
 use mathlib.Core.Path.{_≡_}

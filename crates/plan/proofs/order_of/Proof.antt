@@ -1,4 +1,5 @@
--- `order_of` gives each step its place, from the last step on. The invariant: the steps after the first `left` have theirs. Assumes nothing.
+-- `order_of` gives each step its place, from the last step on. The invariant: the steps after the first `left` have theirs, and so many of
+-- them as `mains` says are on the main path. Assumes nothing.
 use Prim.Native.Nat.{_+_, _-_, _≤_}
 use native.Mathlib.Omega.{arith}
 use mathlib.Core.Path.{_≡_}

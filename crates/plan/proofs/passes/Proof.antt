@@ -1,4 +1,4 @@
--- `passes` is the test that it is asked for. Assumes nothing.
+-- `passes` is the test that it is asked for. Shown for each arm, by the promise of its callee. Assumes nothing.
 use mathlib.Core.Path.{sym, ap, _∙_}
 use borrow.Author.Needs.{needs}
 use Rattle.plan.specs.Planned.{stepAt, passed}

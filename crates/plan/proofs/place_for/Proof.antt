@@ -1,4 +1,4 @@
--- `place_for` is the place of a main-path step or of another. Assumes nothing.
+-- `place_for` is the place of a main-path step or of another. Shown on each side of its branch. Assumes nothing.
 use borrow.Author.Needs.{needs}
 use Rattle.plan.proofs.place_for.Statement.{statement}
 use Rattle.plan.proofs.place_for.Tie as tie

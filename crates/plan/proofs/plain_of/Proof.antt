@@ -1,4 +1,4 @@
--- `plain_of` collects the places on whose step no predicate hangs. Assumes nothing.
+-- `plain_of` collects the places on whose step no predicate hangs. The invariant: those under `place` are collected. Assumes nothing.
 use Prim.Native.Nat.{_-_, _≤_}
 use native.Mathlib.Omega.{arith}
 use mathlib.Core.Path.{refl}

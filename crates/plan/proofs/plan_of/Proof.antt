@@ -1,4 +1,4 @@
--- `plan_of` puts the plan together of its parts. Assumes nothing.
+-- `plan_of` puts the plan together of its parts: each callee promises one, and Made says that together they are the plan. Assumes nothing.
 use borrow.Author.Needs.{needs}
 use Rattle.plan.proofs.Made.{made}
 use Rattle.plan.proofs.plan_of.Statement.{statement}

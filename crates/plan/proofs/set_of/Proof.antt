@@ -1,4 +1,4 @@
--- `set_of` collects the places whose step passes the test. Assumes nothing.
+-- `set_of` collects the places whose step passes the test. The invariant: those under `place` are collected. Assumes nothing.
 use Prim.Native.Nat.{_-_, _*_, _%_, _^_, _≤_}
 use native.Mathlib.Omega.{arith}
 use mathlib.Core.Path.{ap}

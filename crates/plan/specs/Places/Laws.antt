@@ -88,7 +88,9 @@ stands-split (x ∷ ps) rs (sThere s) = go (stands-split ps rs s)
 
 -- how many
 
-one-more : (b : Bool) (st : Step) (i : ℕ) (ms rs : List Numbered) → length (mainIf b st i ms) + length (predicateIf b st i rs) ≡ suc (length ms + length rs)
+one-more :
+    (b : Bool) (st : Step) (i : ℕ) (ms rs : List Numbered) →
+    length (mainIf b st i ms) + length (predicateIf b st i rs) ≡ suc (length ms + length rs)
 unfolding mainIf predicateIf
 one-more true st i ms rs = omega arith
 one-more false st i ms rs = omega arith
@@ -141,7 +143,9 @@ pub data Distinct : List Numbered → Type 0 where
   dNil : Distinct []
   dCons : {p : Numbered} {ps : List Numbered} → Every (Apart p) ps → Distinct ps → Distinct (p ∷ ps)
 
-pub distinct-once : {ps : List Numbered} {t u : ℕ} {p r : Numbered} → Distinct ps → StandsAt ps t p → StandsAt ps u r → p .number ≡ r .number → t ≡ u
+pub distinct-once :
+    {ps : List Numbered} {t u : ℕ} {p r : Numbered} → Distinct ps → StandsAt ps t p → StandsAt ps u r → p .number ≡ r .number →
+    t ≡ u
 distinct-once (dCons a d) sHere sHere e = refl
 distinct-once (dCons a d) sHere (sThere s) e = absurd (stands-every a s e)
 distinct-once (dCons a d) (sThere s) sHere e = absurd (stands-every a s (sym e))

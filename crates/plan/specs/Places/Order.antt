@@ -45,7 +45,9 @@ order-at q = every-order q (numbered-in q 1)
 later-apart : (q : Query) (st : Step) (i : ℕ) (p : Numbered) → InQuery q (suc i) p → Apart (record { step = st; number = i }) p
 later-apart q st i p a e = let h : suc i ≤ p .number = at-least a in absurd (omega arith)
 
-main-distinct : (b : Bool) (st : Step) (i : ℕ) (q : Query) {ps : List Numbered} → Every (InQuery q (suc i)) ps → Distinct ps → Distinct (mainIf b st i ps)
+main-distinct :
+    (b : Bool) (st : Step) (i : ℕ) (q : Query) {ps : List Numbered} → Every (InQuery q (suc i)) ps → Distinct ps →
+    Distinct (mainIf b st i ps)
 unfolding mainIf
 main-distinct true st i q t d = dCons (every-map (later-apart q st i) t) d
 main-distinct false st i q t d = d
@@ -99,7 +101,9 @@ linked-some h (links e d k l) = suc-le-suc zero-le
 linked-last : {near : ℕ} {ps : List Numbered} {p : Numbered} → Linked near ps → StandsAt ps 0 p → p .number ≡ near
 linked-last (links e d k l) sHere = sym e
 
-linked-next : {near t : ℕ} {ps : List Numbered} {p r : Numbered} → Linked near ps → StandsAt ps (suc t) p → StandsAt ps t r → r .step .parent ≡ p .number
+linked-next :
+    {near t : ℕ} {ps : List Numbered} {p r : Numbered} → Linked near ps → StandsAt ps (suc t) p → StandsAt ps t r →
+    r .step .parent ≡ p .number
 linked-next (links e d k l) (sThere s) sHere = d ∙ sym (linked-last l s)
 linked-next (links e d k l) (sThere s) (sThere u) = linked-next l s u
 

@@ -92,7 +92,8 @@ module _ (q : Query) (R : OrderRight q) where
           let s = stands-some (order q) t l in
           subst (λ m. m < 2 ^ length q) (sym (stands-kept hanging (s .1))) (unfold hanging in order-under q (λ u i. hangs u (s .0 .number)))
       go (no f) =
-          subst (λ m. m < 2 ^ length q) (sym (List·getD-eq-default (map hanging (order q)) 0 (omega (arith, length-map (order q) hanging)))) (pow-pos (length q))
+          subst (λ m. m < 2 ^ length q)
+          (sym (List·getD-eq-default (map hanging (order q)) 0 (omega (arith, length-map (order q) hanging)))) (pow-pos (length q))
 
   right : plan q .first ≡ one (pred (mains q)) → PlanRight q (plan q)
   unfolding plan hanging

@@ -41,7 +41,15 @@ rows =
     ∷ record {
       bytes = step 1 1 0 1 ++ step 1 0 1 0 ++ step 1 0 1 2 ++ step 1 1 1 2;
       made =
-          record { names = filled (2 ∷ 1 ∷ 0 ∷ 2 ∷ []); hung = filled (0 ∷ 12 ∷ 0 ∷ 0 ∷ []); size = 4; deep = 0; main = 3; plain = 13; first = 2 };
+          record {
+            names = filled (2 ∷ 1 ∷ 0 ∷ 2 ∷ []);
+            hung = filled (0 ∷ 12 ∷ 0 ∷ 0 ∷ []);
+            size = 4;
+            deep = 0;
+            main = 3;
+            plain = 13;
+            first = 2;
+          };
     }
     -- a predicate on a predicate, and one descendant axis: /child::r[child::a[descendant::b]]
     ∷ record {
