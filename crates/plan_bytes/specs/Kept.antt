@@ -4,13 +4,14 @@
 --   keptOf ws, keptIn bs      the plan that numbers stand for, and bytes: any numbers stand for one, of 32 steps at most
 --   setOf which P       one of its sets of steps
 --   slots l             the first 32 of l, 0 past its end
---   packed p            the numbers of a plan
+--   packedOver p ws     the numbers ws with those of the plan p written over them;  packed p: over zeros
 --
 -- Assumes nothing. NOT here: that the plan of a query is read as it was packed (Kept.Laws).
 pub mod Laws
 use Prim.Native.Nat.{ℕ, _+_, _*_}
-use mathlib.Core.List.{List, [], _∷_, _++_}
-use lib.ListN.{getD}
+use mathlib.Core.List.{List, [], _∷_}
+use lib.ListN.{getD, replicate}
+use lib.Seq.{sets}
 use Rattle.plan.specs.declared.Plan as struct
 use Rattle.plan.specs.Plan.{Plan}
 use Rattle.query.specs.Rules.{mostSteps}
@@ -45,6 +46,11 @@ setOf which P = getD (0 ∷ P .deep ∷ P .main ∷ P .plain ∷ P .first ∷ []
 unfoldable pub slots : List ℕ → List ℕ
 slots l = rows mostSteps (λ t. getD l t 0)
 
+unfoldable pub packedOver : struct.Plan → List ℕ → List ℕ
+packedOver p ws =
+    sets
+    (sets (sets ws 0 (sizeOf (p .size) ∷ p .deep ∷ p .main ∷ p .plain ∷ p .first ∷ [])) 8 (slots (p .names)))
+    40 (slots (p .hung))
+
 unfoldable pub packed : struct.Plan → List ℕ
-packed p =
-    (sizeOf (p .size) ∷ p .deep ∷ p .main ∷ p .plain ∷ p .first ∷ 0 ∷ 0 ∷ 0 ∷ []) ++ (p .names ++ p .hung)
+packed p = packedOver p (words (replicate planRoom 0))

@@ -6,7 +6,7 @@ ghost use lib.ListN.{length, getD};
 ghost use lib.Seq.{sets};
 ghost use mathlib.Core.List.{[], _∷_};
 ghost use Rattle.words.specs.Words.{words, bytesOf};
-ghost use Rattle.plan_bytes.specs.Kept.{planRoom, keptIn, setOf, slots, packed};
+ghost use Rattle.plan_bytes.specs.Kept.{planRoom, keptIn, setOf, slots, packedOver, packed};
 use plan::Plan;
 
 // How many bytes it takes.
@@ -97,23 +97,23 @@ fn put_sets(size: u32, deep: u32, main: u32, plain: u32, first: u32, bytes: &mut
     words::put(bytes, FIRST, first);
 }
 
-// A plan in bytes.
-pub fn pack(plan: Plan) -> [u8; 288]
-    ensures { λ r. ⌜ r ≡ bytesOf (packed plan) ⌝ }
+fn lay(plan: Plan, bytes: &mut [u8])
+    requires { ⌜ length (now bytes) ≡ planRoom ⌝ }
+    ensures { λ r. ⌜ now (bytes .exit) ≡ bytesOf (packedOver plan (words (now (bytes .entry)))) ⌝ }
 {
     let names = plan.names;
     let hung = plan.hung;
     let size = plan::size_of(plan.size);
+    put_sets(size as u32, plan.deep, plan.main, plan.plain, plan.first, bytes);
+    put_names(&names, bytes);
+    put_hung(&hung, bytes);
+}
+
+// A plan in bytes.
+pub fn pack(plan: Plan) -> [u8; 288]
+    ensures { λ r. ⌜ r ≡ bytesOf (packed plan) ⌝ }
+{
     let mut bytes = [0u8; 288];
-    put_sets(
-        size as u32,
-        plan.deep,
-        plan.main,
-        plan.plain,
-        plan.first,
-        &mut bytes,
-    );
-    put_names(&names, &mut bytes);
-    put_hung(&hung, &mut bytes);
+    lay(plan, &mut bytes);
     bytes
 }

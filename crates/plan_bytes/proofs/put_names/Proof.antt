@@ -5,7 +5,7 @@ use Prim.Native.Nat.{_-_, _≤_}
 use mathlib.Core.Path.{_≡_, refl}
 use lib.ListN.{length}
 use Rattle.words.specs.Words.{words}
-use Rattle.plan_bytes.specs.Kept.Laws.{room-is, Written, written-none, written-next, written-all}
+use Rattle.plan_bytes.specs.Kept.Laws.{room-is, Written, written-none, written-as, written-all}
 use Rattle.plan_bytes.proofs.put_names.Statement.{statement}
 use Rattle.plan_bytes.proofs.put_names.Tie as tie
 
@@ -41,7 +41,7 @@ loop-less c = search needs
 
 loop-again : tie.Need-loop-again Inv-loop μ-loop
 loop-again c = let at-loop = c .before .before .before .before .before .before .before .loop in
-    (omega arith, (search needs, written-next 8 _ _ _ _ _ (at-loop .inv .1 .1) (c .before .before .put .ensures ∙ ?)))
+    (omega arith, (search needs, written-as 8 _ _ _ _ _ _ (at-loop .inv .1 .1) (c .before .before .before .wide .ensures) (c .before .before .put .ensures)))
 
 same-length : tie.Need-same-length Inv-loop μ-loop
 same-length c = search needs

@@ -1,9 +1,8 @@
 -- Five numbers in a row. Assumes nothing.
 use borrow.Author.Needs.{needs}
 use native.Mathlib.Omega.{arith}
-use mathlib.Core.Path.{ap, _∙_}
-use lib.ListN.{set}
-use Rattle.plan_bytes.specs.Kept.Laws.{room-is}
+use Rattle.words.specs.Words.{words}
+use Rattle.plan_bytes.specs.Kept.Laws.{room-is, five-written}
 use Rattle.plan_bytes.proofs.put_sets.Statement.{statement}
 use Rattle.plan_bytes.proofs.put_sets.Tie as tie
 
@@ -31,8 +30,9 @@ returns c = let last = c .before .before in
     let third = fourth .before .before .before .before in
     let second = third .before .before .before .before in
     let first = second .before .before .before .before in
-    last .put5 .ensures
-    ∙ ap (λ l. set l 4 _) (fourth .put4 .ensures ∙ ap (λ l. set l 3 _) (third .put3 .ensures ∙ ap (λ l. set l 2 _) (second .put2 .ensures ∙ ap (λ l. set l 1 _) (first .put .ensures))))
+    let args = first .before .before .before .args in
+    five-written (words (args .bytes .now)) _ _ _ _ _ (args .size) (args .deep) (args .main) (args .plain) (args .first) (first .put .ensures)
+    (second .put2 .ensures) (third .put3 .ensures) (fourth .put4 .ensures) (last .put5 .ensures)
 
 pub put-sets-spec : {M : Type 1} → statement M
 put-sets-spec =

@@ -10,11 +10,13 @@ use mathlib.Core.Path.{_≡_, refl, sym, ap, ap₂, _∙_, subst}
 use mathlib.Core.List.{List, [], _∷_, _++_}
 use lib.ListN.{length, getD, set, take, drop, replicate, length-replicate}
 use lib.Seq.{sets, sets-eq, length-sets}
+use Rattle.plan.specs.declared.Plan as struct
 use Rattle.plan.specs.Plan.{Plan}
 use Rattle.plan.specs.Planned.{sizeOf}
-use Rattle.words.specs.Words.{words}
+use Rattle.words.specs.Words.{words, bytesOf, Bytes}
+use Rattle.words.specs.Words.Laws.{bytes-words}
 use Rattle.words.specs.Rows.{rows, rows-length, rows-at}
-use Rattle.plan_bytes.specs.Kept.{planRoom, tableAt, keptOf, keptIn, setOf, slots, packed}
+use Rattle.plan_bytes.specs.Kept.{planRoom, tableAt, keptOf, keptIn, setOf, slots, packedOver, packed}
 
 pub steps-is : (bs : List ℕ) (which r : ℕ) → 0 < which → which < 5 → r ≡ getD (words bs) which 0 → r ≡ setOf which (keptIn bs)
 unfolding keptIn
@@ -66,7 +68,7 @@ pub written-none : (at : ℕ) (from ws : List ℕ) → Written at from 0 ws ws
 unfolding rows Written
 written-none at from ws = refl
 
-pub written-next :
+written-next :
     (at : ℕ) (from : List ℕ) (i : ℕ) (ws₀ ws ws′ : List ℕ) → Written at from i ws₀ ws → ws′ ≡ set ws (at + i) (getD from i 0) →
     Written at from (i + 1) ws₀ ws′
 unfolding Written
@@ -84,3 +86,32 @@ written-all at from i ws₀ ws h l e = e ∙ ap (λ k. sets ws₀ at (rows k (λ
 pub room-is : planRoom ≡ 288
 unfolding planRoom
 room-is = refl
+
+pub five-written :
+    (ws ws₁ ws₂ ws₃ ws₄ ws₅ : List ℕ) (a b c d e : ℕ) → ws₁ ≡ set ws 0 a → ws₂ ≡ set ws₁ 1 b → ws₃ ≡ set ws₂ 2 c → ws₄ ≡ set ws₃ 3 d →
+    ws₅ ≡ set ws₄ 4 e → ws₅ ≡ sets ws 0 (a ∷ b ∷ c ∷ d ∷ e ∷ [])
+five-written ws ws₁ ws₂ ws₃ ws₄ ws₅ a b c d e e₁ e₂ e₃ e₄ e₅ =
+    e₅ ∙ ap (λ l. set l 4 e) (e₄ ∙ ap (λ l. set l 3 d) (e₃ ∙ ap (λ l. set l 2 c) (e₂ ∙ ap (λ l. set l 1 b) e₁)))
+
+pub written-as :
+    (at : ℕ) (from : List ℕ) (i v : ℕ) (ws₀ ws ws′ : List ℕ) → Written at from i ws₀ ws → v ≡ getD from i 0 → ws′ ≡ set ws (at + i) v →
+    Written at from (i + 1) ws₀ ws′
+written-as at from i v ws₀ ws ws′ e is n = written-next at from i ws₀ ws ws′ e (n ∙ ap (set ws (at + i)) is)
+
+pub lay-parts :
+    (p : struct.Plan) (bs₀ bs ws₁ ws₂ : List ℕ) (size : ℕ) → length bs ≡ planRoom → Bytes bs → size ≡ sizeOf (p .size) →
+    ws₁ ≡ sets (words bs₀) 0 (size ∷ p .deep ∷ p .main ∷ p .plain ∷ p .first ∷ []) → ws₂ ≡ sets ws₁ 8 (slots (p .names)) →
+    words bs ≡ sets ws₂ 40 (slots (p .hung)) → bs ≡ bytesOf (packedOver p (words bs₀))
+unfolding planRoom packedOver
+lay-parts p bs₀ bs ws₁ ws₂ size long h es e₁ e₂ e₃ =
+    sym (bytes-words 72 bs long h)
+    ∙ ap bytesOf
+    (e₃
+    ∙ ap (λ l. sets l 40 (slots (p .hung)))
+    (e₂
+    ∙ ap (λ l. sets l 8 (slots (p .names)))
+    (e₁ ∙ ap (λ n. sets (words bs₀) 0 (n ∷ p .deep ∷ p .main ∷ p .plain ∷ p .first ∷ [])) es)))
+
+pub pack-is : (p : struct.Plan) (bs : List ℕ) → bs ≡ bytesOf (packedOver p (words (replicate 288 0))) → bs ≡ bytesOf (packed p)
+unfolding packed
+pack-is p bs e = e ∙ ap (λ n. bytesOf (packedOver p (words (replicate n 0)))) (sym room-is)
