@@ -6,8 +6,8 @@ use mathlib.Core.Path.{_≡_, refl, _∙_}
 use lib.ListN.{length}
 use Rattle.lines.specs.Put.{Put}
 use Rattle.lines.specs.Text.{linesOf, nodesIn}
-use Rattle.lines.specs.TextLaws.{line-short, lines-short, put-next}
-use Rattle.lines.specs.PutLaws.{put-none, put-counts}
+use Rattle.lines.specs.Text.Laws.{line-short, lines-short, put-next}
+use Rattle.lines.specs.Put.Laws.{put-none, put-counts}
 use Rattle.lines.proofs.put_lines.Statement.{statement}
 use Rattle.lines.proofs.put_lines.Tie as tie
 

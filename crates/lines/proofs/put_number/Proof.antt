@@ -6,8 +6,8 @@ use mathlib.Core.Path.{_≡_, refl, _∙_}
 use lib.ListN.{length, length-set}
 use lib.Seq.{sets}
 use Rattle.lines.specs.Decimal.{decimal}
-use Rattle.lines.specs.DecimalLaws.{length-more, length-some}
-use Rattle.lines.specs.PutLaws.{digit-put, digit-last}
+use Rattle.lines.specs.Decimal.Laws.{length-more, length-some}
+use Rattle.lines.specs.Put.Laws.{digit-put, digit-last}
 use Rattle.lines.proofs.put_number.Statement.{statement}
 use Rattle.lines.proofs.put_number.Tie as tie
 

@@ -1,8 +1,8 @@
 -- `lines::put_refused` meets its contract. Assumes nothing.
 use native.Mathlib.Omega.{arith}
 use borrow.Author.Needs.{needs}
-use Rattle.lines.specs.TextLaws.{line-short, put-refused}
-use Rattle.lines.specs.PutLaws.{put-counts}
+use Rattle.lines.specs.Text.Laws.{line-short, put-refused}
+use Rattle.lines.specs.Put.Laws.{put-counts}
 use Rattle.lines.proofs.put_refused.Statement.{statement}
 use Rattle.lines.proofs.put_refused.Tie as tie
 

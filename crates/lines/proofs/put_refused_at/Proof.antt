@@ -1,9 +1,9 @@
 -- `lines::put_refused_at` meets its contract. Assumes nothing.
 use native.Mathlib.Omega.{arith}
 use borrow.Author.Needs.{needs}
-use Rattle.lines.specs.TextLaws.{line-short, put-refused-at}
-use Rattle.lines.specs.DecimalLaws.{length-short}
-use Rattle.lines.specs.PutLaws.{put-counts}
+use Rattle.lines.specs.Text.Laws.{line-short, put-refused-at}
+use Rattle.lines.specs.Decimal.Laws.{length-short}
+use Rattle.lines.specs.Put.Laws.{put-counts}
 use Rattle.lines.proofs.put_refused_at.Statement.{statement}
 use Rattle.lines.proofs.put_refused_at.Tie as tie
 

@@ -5,7 +5,7 @@ use native.Mathlib.Omega.{arith}
 use mathlib.Core.Path.{_≡_}
 use lib.ListN.{length}
 use Rattle.lines.specs.Decimal.{decimal}
-use Rattle.lines.specs.DecimalLaws.{length-single, length-more, length-short}
+use Rattle.lines.specs.Decimal.Laws.{length-single, length-more, length-short}
 use Rattle.lines.proofs.width.Statement.{statement}
 use Rattle.lines.proofs.width.Tie as tie
 
