@@ -1,4 +1,4 @@
--- `lines::put_line` meets its contract. Assumes nothing.
+-- `put_line` puts the numeral and one byte behind it; the line is that much longer. Assumes nothing.
 use native.Mathlib.Omega.{arith}
 use borrow.Author.Needs.{needs}
 use Rattle.lines.specs.Put.Laws.{put-one, put-then}

@@ -1,4 +1,4 @@
--- `lines::put_word` meets its contract. The invariant: so many bytes of the word are put.
+-- `put_word` puts a word byte by byte. The invariant: so many bytes of it are put.
 -- Assumes nothing.
 use Prim.Native.Nat.{_+_, _-_, _≤_}
 use native.Mathlib.Omega.{arith}

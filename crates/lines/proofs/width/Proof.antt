@@ -1,4 +1,4 @@
--- `lines::width` meets its contract. The invariant: the digits that are left and those passed are the number's, and one.
+-- `width` counts the digits of the numeral. The invariant: the digits that are left and those passed are the number's, and one.
 -- Assumes nothing.
 use Prim.Native.Nat.{_+_}
 use native.Mathlib.Omega.{arith}
