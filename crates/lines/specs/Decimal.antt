@@ -12,7 +12,6 @@
 -- Assumes nothing. NOT here: that decimal n is the one numeral that is read as n (Decimal.Laws).
 pub mod Laws
 use Prim.Native.Nat.{ℕ, zero, suc, _+_, _-_, _*_, _/_, _%_, _≤_, _<_}
-use mathlib.Core.Path.{_≡_}
 use mathlib.Core.Bool.{cond}
 use mathlib.Core.List.{List, [], _∷_, _++_}
 use lib.Dec.{ltb}
