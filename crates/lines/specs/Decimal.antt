@@ -9,9 +9,9 @@
 --   value cs         the number that a numeral is read as
 --   Numeral cs       cs is a decimal numeral: digits, at least one, and no zero in front of another
 --
--- Assumes nothing. NOT here: that decimal n is the one numeral that is read as n (DecimalLaws).
+-- Assumes nothing. NOT here: that decimal n is the one numeral that is read as n (Decimal.Laws).
+pub mod Laws
 use Prim.Native.Nat.{ℕ, zero, suc, _+_, _-_, _*_, _/_, _%_, _≤_, _<_}
-use mathlib.Core.Path.{_≡_}
 use mathlib.Core.Bool.{cond}
 use mathlib.Core.List.{List, [], _∷_, _++_}
 use lib.Dec.{ltb}

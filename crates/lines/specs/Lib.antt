@@ -1,5 +1,4 @@
 pub mod Decimal
-pub mod DecimalLaws
 pub mod Text
 pub mod TextLaws
 pub mod Put

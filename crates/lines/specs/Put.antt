@@ -3,6 +3,7 @@
 --   Put l at vs l′ r      l′ is l with vs in place of what stood from at on, and r is where vs ends
 --
 -- It leaves one l′ and one r. Assumes nothing. NOT here: what `sets` is (lib.Seq).
+pub mod Laws
 use Prim.Native.Nat.{ℕ, _+_}
 use mathlib.Core.Path.{_≡_}
 use mathlib.Core.List.{List}

@@ -8,6 +8,7 @@
 --   refusedLine r       the line "refused R"
 --
 -- Assumes nothing. NOT here: which lines the program writes when (crate pick), the nodes in list records (crate records, Write), passed on.
+pub mod Laws
 use Prim.Native.Nat.{ℕ}
 use mathlib.Core.List.{List, [], _∷_, _++_}
 use Rattle.lines.specs.Decimal.{decimal}

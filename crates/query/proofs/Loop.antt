@@ -38,7 +38,9 @@ pub loop-starts : (q : List ℕ) → judgedFrom q (steps q - 0) 0 ≡ judged q
 unfolding judged
 loop-starts q = rw (sub-zero (steps q))
 
-pub next-near : (q : List ℕ) (at s near next : ℕ) → at ≡ stepBytes * s → near ≡ nearest q s → next ≡ nearer (isMain (partAt q at)) (s + 1) near → next ≡ nearest q (s + 1)
+pub next-near :
+    (q : List ℕ) (at s near next : ℕ) → at ≡ stepBytes * s → near ≡ nearest q s →
+    next ≡ nearer (isMain (partAt q at)) (s + 1) near → next ≡ nearest q (s + 1)
 unfolding nearest
 next-near q at s near next h n e = rw (add-one s) (e ∙ rw (part-is q at s h, add-one s, n))
 
@@ -49,7 +51,9 @@ turn : (q : List ℕ) (s : ℕ) → s < steps q → judgedFrom q (steps q - s) s
 unfolding judgedFrom
 turn q s h = rw (left-is (steps q) s h)
 
-module _ (q : List ℕ) (at s near : ℕ) (r : Bool) (begins : at ≡ stepBytes * s) (nears : near ≡ nearest q s) (told : r ≡ keepsWith (partAt q at) (s + 1) near) (goes : judgedFrom q (steps q - s) s ≡ judged q) (there : s < steps q) where
+module _ (q : List ℕ) (at s near : ℕ) (r : Bool) (begins : at ≡ stepBytes * s) (nears : near ≡ nearest q s)
+    (told : r ≡ keepsWith (partAt q at) (s + 1) near)
+    (goes : judgedFrom q (steps q - s) s ≡ judged q) (there : s < steps q) where
   by-record : keeps q s ≡ r
   by-record = keeps-is q s ∙ sym (told ∙ rw (part-is q at s begins, add-one s, nears))
 

@@ -17,7 +17,8 @@ use lib.Dec.{T}
 use lib.ListN.{length}
 pub use Rattle.meaning.specs.Record.{Bytes}
 use Rattle.meaning.specs.Query.{Axis, child, descendant, Step, Query, admits}
-use Rattle.query.specs.Rules.{stepBytes, mostSteps, wrongLength, steps, stepOf, axisByte, roleByte, onByte, nameNumber, isMain, axisNamed, axisRule, roleRule, zeroRule}
+use Rattle.query.specs.Rules.{stepBytes, mostSteps, wrongLength, steps, stepOf, axisByte, roleByte}
+use Rattle.query.specs.Rules.{onByte, nameNumber, isMain, axisNamed, axisRule, roleRule, zeroRule}
 use Rattle.query.specs.declared.AxisByte.{AxisByte}
 use Rattle.query.specs.declared.AxisByte.the-variants.{Child, Descendant, Unknown}
 

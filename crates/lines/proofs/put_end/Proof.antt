@@ -1,8 +1,8 @@
--- `lines::put_end` meets its contract. Assumes nothing.
+-- `put_end` puts the word and the number's line behind it, and a line is short enough for the text. Assumes nothing.
 use native.Mathlib.Omega.{arith}
 use borrow.Author.Needs.{needs}
-use Rattle.lines.specs.TextLaws.{line-short, put-end}
-use Rattle.lines.specs.PutLaws.{put-counts}
+use Rattle.lines.specs.Text.Laws.{line-short, put-end}
+use Rattle.lines.specs.Put.Laws.{put-counts}
 use Rattle.lines.proofs.put_end.Statement.{statement}
 use Rattle.lines.proofs.put_end.Tie as tie
 
@@ -19,8 +19,11 @@ same-length : tie.Need-same-length
 same-length c = search needs
 
 returns : tie.Need-returns
-returns c = put-counts (put-end (c .before .before .before .before .before .before .before .before .before .before .args .n) (c .before .before .before .before .before .before .put-word .ensures) (c .before .before .put-line .ensures))
-    (omega (arith, line-short 19 (c .before .before .before .before .before .before .before .before .before .before .args .n) (omega arith)))
+returns c =
+    let word = c .before .before .before .before .before .before in
+    let start = word .before .before .before .before in
+    put-counts (put-end (start .args .n) (word .put-word .ensures) (c .before .before .put-line .ensures))
+    (omega (arith, line-short 19 (start .args .n) (omega arith)))
 
 pub put-end-spec : {M : Type 1} → statement M
 put-end-spec =

@@ -1,8 +1,8 @@
--- `lines::put_line` meets its contract. Assumes nothing.
+-- `put_line` puts the numeral and one byte behind it; the line is that much longer. Assumes nothing.
 use native.Mathlib.Omega.{arith}
 use borrow.Author.Needs.{needs}
-use Rattle.lines.specs.PutLaws.{put-one, put-then}
-use Rattle.lines.specs.TextLaws.{length-line}
+use Rattle.lines.specs.Put.Laws.{put-one, put-then}
+use Rattle.lines.specs.Text.Laws.{length-line}
 use Rattle.lines.proofs.put_line.Statement.{statement}
 use Rattle.lines.proofs.put_line.Tie as tie
 

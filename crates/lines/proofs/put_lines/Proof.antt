@@ -1,4 +1,4 @@
--- `lines::put_lines` meets its contract. The invariant: so many lines are put.
+-- `put_lines` puts a line for each list record. The invariant: so many lines are put.
 -- Assumes nothing.
 use Prim.Native.Nat.{_-_, _≤_}
 use native.Mathlib.Omega.{arith}
@@ -6,8 +6,8 @@ use mathlib.Core.Path.{_≡_, refl, _∙_}
 use lib.ListN.{length}
 use Rattle.lines.specs.Put.{Put}
 use Rattle.lines.specs.Text.{linesOf, nodesIn}
-use Rattle.lines.specs.TextLaws.{line-short, lines-short, put-next}
-use Rattle.lines.specs.PutLaws.{put-none, put-counts}
+use Rattle.lines.specs.Text.Laws.{line-short, lines-short, put-next}
+use Rattle.lines.specs.Put.Laws.{put-none, put-counts}
 use Rattle.lines.proofs.put_lines.Statement.{statement}
 use Rattle.lines.proofs.put_lines.Tie as tie
 
@@ -25,10 +25,12 @@ node-at-requires : tie.Need-node-at-requires Inv-loop μ-loop
 node-at-requires c κs = omega arith
 
 put-line-requires : tie.Need-put-line-requires Inv-loop μ-loop
-put-line-requires c κs = let l = c .before .before .before .loop in
+put-line-requires c κs =
+    let l = c .before .before .before .loop in
+    let start = c .before .before .before .before .before in
     omega (
       arith,
-      lines-short (l .i) (c .before .before .before .before .before .before .args .records .now) (λ i. c .before .before .before .before .before .shared-slice-known .given i .fits),
+      lines-short (l .i) (start .before .args .records .now) (λ i. start .shared-slice-known .given i .fits),
       line-short 9 (c .before .node-at .result) (omega (arith, c .before .node-at .ensures .1)),
     )
 
@@ -39,21 +41,28 @@ loop-less : tie.Need-loop-less Inv-loop μ-loop
 loop-less c = omega arith
 
 loop-again : tie.Need-loop-again Inv-loop μ-loop
-loop-again c = (
-  omega arith,
-  (
-    c .before .before .put-line .kept .1 .1 .0 ∙ c .before .before .before .before .before .before .loop .inv .1 .0,
-    put-next (c .before .before .before .before .before .before .before .before .before .args .records .now) (c .before .before .before .before .before .before .loop .i) (c .before .before .before .before .node-at .result) (c .before .before .before .before .before .before .loop .inv .1 .1) (c .before .before .before .before .node-at .ensures .0) (c .before .before .put-line .ensures),
-  ),
-)
+loop-again c =
+    let at-node = c .before .before .before .before in
+    let turn = at-node .before .before in
+    let l = turn .loop in
+    let a = turn .before .before .before .args in (
+      omega arith,
+      (
+        c .before .before .put-line .kept .1 .1 .0 ∙ l .inv .1 .0,
+        put-next (a .records .now) (l .i) (at-node .node-at .result) (l .inv .1 .1) (at-node .node-at .ensures .0) (c .before .before .put-line .ensures),
+      ),
+    )
 
 same-length : tie.Need-same-length Inv-loop μ-loop
 same-length c = omega arith
 
 returns : tie.Need-returns Inv-loop μ-loop
-returns c = let same : c .before .loop .i ≡ c .before .before .before .before .args .count = omega arith in
-    put-counts (rw same at (c .before .loop .inv .1 .1))
-    (omega (arith, lines-short (c .before .loop .i) (c .before .before .before .before .args .records .now) (λ i. c .before .before .before .shared-slice-known .given i .fits)))
+returns c =
+    let l = c .before .loop in
+    let start = c .before .before .before in
+    let same : l .i ≡ start .before .args .count = omega arith in
+    put-counts (rw same at (l .inv .1 .1))
+    (omega (arith, lines-short (l .i) (start .before .args .records .now) (λ i. start .shared-slice-known .given i .fits)))
 
 pub put-lines-spec : {M : Type 1} → statement M
 put-lines-spec =

@@ -1,4 +1,4 @@
--- `lines::put_number` meets its contract. The invariant: what is left of the number, put into the text as it stands, makes it what it has to be.
+-- `put_number` puts the numeral, the last digit first. The invariant: what is left of the number, put into the text as it stands, makes it what it has to be.
 -- Assumes nothing.
 use Prim.Native.Nat.{_+_, _≤_}
 use native.Mathlib.Omega.{arith}
@@ -6,13 +6,15 @@ use mathlib.Core.Path.{_≡_, refl, _∙_}
 use lib.ListN.{length, length-set}
 use lib.Seq.{sets}
 use Rattle.lines.specs.Decimal.{decimal}
-use Rattle.lines.specs.DecimalLaws.{length-more, length-some}
-use Rattle.lines.specs.PutLaws.{digit-put, digit-last}
+use Rattle.lines.specs.Decimal.Laws.{length-more, length-some}
+use Rattle.lines.specs.Put.Laws.{digit-put, digit-last}
 use Rattle.lines.proofs.put_number.Statement.{statement}
 use Rattle.lines.proofs.put_number.Tie as tie
 
 abbrev Inv-loop : tie.InvT-loop
-Inv-loop n at text₀ end i₀ rest₀ text i rest = ((i ≡ at + length (decimal rest)) × (i ≤ end)) × ((length text ≡ length text₀) × (sets text at (decimal rest) ≡ sets text₀ at (decimal n)))
+Inv-loop n at text₀ end i₀ rest₀ text i rest =
+    ((i ≡ at + length (decimal rest)) × (i ≤ end))
+    × ((length text ≡ length text₀) × (sets text at (decimal rest) ≡ sets text₀ at (decimal n)))
 
 abbrev μ-loop : tie.MeasureT-loop
 μ-loop n at text₀ end i₀ rest₀ text i rest = rest

@@ -1,8 +1,8 @@
--- `lines::put_refused` meets its contract. Assumes nothing.
+-- `put_refused` puts the word and the refusal's line behind it; a number under 256 makes a short line. Assumes nothing.
 use native.Mathlib.Omega.{arith}
 use borrow.Author.Needs.{needs}
-use Rattle.lines.specs.TextLaws.{line-short, put-refused}
-use Rattle.lines.specs.PutLaws.{put-counts}
+use Rattle.lines.specs.Text.Laws.{line-short, put-refused}
+use Rattle.lines.specs.Put.Laws.{put-counts}
 use Rattle.lines.proofs.put_refused.Statement.{statement}
 use Rattle.lines.proofs.put_refused.Tie as tie
 
@@ -22,8 +22,13 @@ same-length : tie.Need-same-length
 same-length c = search needs
 
 returns : tie.Need-returns
-returns c = put-counts (put-refused (c .before .before .before .before .wide .result) (c .before .before .before .before .before .before .before .before .before .before .before .args .r) (c .before .before .before .before .wide .ensures .0) (c .before .before .before .before .before .before .before .put-word .ensures) (c .before .before .put-line .ensures))
-    (omega (arith, line-short 2 (c .before .before .before .before .wide .result) (omega arith)))
+returns c =
+    let number = c .before .before .before .before in
+    let word = number .before .before .before in
+    let start = word .before .before .before .before in
+    put-counts
+    (put-refused (number .wide .result) (start .args .r) (number .wide .ensures .0) (word .put-word .ensures) (c .before .before .put-line .ensures))
+    (omega (arith, line-short 2 (number .wide .result) (omega arith)))
 
 pub put-refused-spec : {M : Type 1} → statement M
 put-refused-spec =

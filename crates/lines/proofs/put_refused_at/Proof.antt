@@ -1,9 +1,10 @@
--- `lines::put_refused_at` meets its contract. Assumes nothing.
+-- `put_refused_at` puts four parts, each behind the one before; a number under 256 has at most 3 digits, and the event's line 21 bytes.
+-- Assumes nothing.
 use native.Mathlib.Omega.{arith}
 use borrow.Author.Needs.{needs}
-use Rattle.lines.specs.TextLaws.{line-short, put-refused-at}
-use Rattle.lines.specs.DecimalLaws.{length-short}
-use Rattle.lines.specs.PutLaws.{put-counts}
+use Rattle.lines.specs.Text.Laws.{line-short, put-refused-at}
+use Rattle.lines.specs.Decimal.Laws.{length-short}
+use Rattle.lines.specs.Put.Laws.{put-counts}
 use Rattle.lines.proofs.put_refused_at.Statement.{statement}
 use Rattle.lines.proofs.put_refused_at.Tie as tie
 
@@ -26,16 +27,26 @@ put-word-requires-2 : tie.Need-put-word-requires-2
 put-word-requires-2 c κs = omega (arith, length-short 2 (c .before .before .before .before .before .before .wide .result) (omega arith))
 
 put-line-requires : tie.Need-put-line-requires
-put-line-requires c κs = omega (arith, length-short 2 (c .before .before .before .before .before .before .before .before .before .before .wide .result) (omega arith), line-short 19 (c .before .before .before .before .before .before .before .before .before .before .before .before .before .before .before .before .before .args .e) (omega arith))
+put-line-requires c κs =
+    let at-word = c .before .before .before in
+    let number = at-word .before .before .before .before .before .before .before in
+    let start = number .before .before .before .before .before .before .before in
+    omega (arith, length-short 2 (number .wide .result) (omega arith), line-short 19 (start .args .e) (omega arith))
 
 same-length : tie.Need-same-length
 same-length c = search needs
 
 returns : tie.Need-returns
-returns c = put-counts
-    (put-refused-at (c .before .before .before .before .before .before .before .before .before .before .before .before .before .wide .result) (c .before .before .before .before .before .before .before .before .before .before .before .before .before .before .before .before .before .before .before .before .args .r) (c .before .before .before .before .before .before .before .before .before .before .before .before .before .before .before .before .before .before .before .before .args .e) (c .before .before .before .before .before .before .before .before .before .before .before .before .before .wide .ensures .0) (c .before .before .before .before .before .before .before .before .before .before .before .before .before .before .before .before .put-word .ensures)
-    (c .before .before .before .before .before .before .before .before .before .before .before .put-number .ensures) (c .before .before .before .before .before .before .put-word2 .ensures) (c .before .before .put-line .ensures))
-    (omega (arith, length-short 2 (c .before .before .before .before .before .before .before .before .before .before .before .before .before .wide .result) (omega arith), line-short 19 (c .before .before .before .before .before .before .before .before .before .before .before .before .before .before .before .before .before .before .before .before .args .e) (omega arith)))
+returns c =
+    let at-word = c .before .before .before .before .before .before in
+    let digits = at-word .before .before .before .before .before in
+    let number = digits .before .before in
+    let word = number .before .before .before in
+    let start = word .before .before .before .before in
+    put-counts
+    (put-refused-at (number .wide .result) (start .args .r) (start .args .e) (number .wide .ensures .0)
+    (word .put-word .ensures) (digits .put-number .ensures) (at-word .put-word2 .ensures) (c .before .before .put-line .ensures))
+    (omega (arith, length-short 2 (number .wide .result) (omega arith), line-short 19 (start .args .e) (omega arith)))
 
 pub put-refused-at-spec : {M : Type 1} → statement M
 put-refused-at-spec =

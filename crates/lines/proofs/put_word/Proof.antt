@@ -1,11 +1,11 @@
--- `lines::put_word` meets its contract. The invariant: so many bytes of the word are put.
+-- `put_word` puts a word byte by byte. The invariant: so many bytes of it are put.
 -- Assumes nothing.
 use Prim.Native.Nat.{_+_, _-_, _≤_}
 use native.Mathlib.Omega.{arith}
 use mathlib.Core.Path.{_≡_, refl}
 use lib.ListN.{length, take, length-set}
 use Rattle.lines.specs.Put.{Put}
-use Rattle.lines.specs.PutLaws.{put-none, put-more, put-all}
+use Rattle.lines.specs.Put.Laws.{put-none, put-more, put-all}
 use Rattle.lines.proofs.put_word.Statement.{statement}
 use Rattle.lines.proofs.put_word.Tie as tie
 

@@ -1,11 +1,11 @@
--- `lines::width` meets its contract. The invariant: the digits that are left and those passed are the number's, and one.
+-- `width` counts the digits of the numeral. The invariant: the digits that are left and those passed are the number's, and one.
 -- Assumes nothing.
 use Prim.Native.Nat.{_+_}
 use native.Mathlib.Omega.{arith}
 use mathlib.Core.Path.{_≡_}
 use lib.ListN.{length}
 use Rattle.lines.specs.Decimal.{decimal}
-use Rattle.lines.specs.DecimalLaws.{length-single, length-more, length-short}
+use Rattle.lines.specs.Decimal.Laws.{length-single, length-more, length-short}
 use Rattle.lines.proofs.width.Statement.{statement}
 use Rattle.lines.proofs.width.Tie as tie
 

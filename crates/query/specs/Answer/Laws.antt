@@ -17,7 +17,8 @@ use native.Mathlib.Omega.{arith}
 use borrow.Author.Count.{below-more}
 use lib.ListN.{length}
 use Rattle.query.specs.Rules.{wrongLength, steps, keeps}
-use Rattle.query.specs.Answer.{badLength, badStep, Answer, admitted, refused, refusedAt, said, FirstBreaking, Kept, Owed, ifKept, judgedFrom, judged, ifWrong, answerTo, CheckGives}
+use Rattle.query.specs.Answer.{badLength, badStep, Answer, admitted, refused, refusedAt, said, FirstBreaking}
+use Rattle.query.specs.Answer.{Kept, Owed, ifKept, judgedFrom, judged, ifWrong, answerTo, CheckGives}
 use Rattle.query.specs.declared.QueryAnswer.{QueryAnswer}
 use Rattle.query.specs.declared.QueryAnswer.the-variants.{Admitted, BadLength, BadStep}
 
@@ -39,7 +40,8 @@ module _ (q : List ℕ) (right : wrongLength (length q) ≡ false) where
   owed-from : (n s : ℕ) → s + n ≡ steps q → KeptTo s → Owed q (judgedFrom q n s)
   unfolding KeptTo judgedFrom
   owed-from zero s e h = record { right = right; each = λ t lt. h t (omega arith) }
-  owed-from (suc n) s e h = owed-step s (keeps q s) (judgedFrom q n (suc s)) (omega arith) h refl (λ kept. owed-from n (suc s) (omega arith) (one-more s h kept))
+  owed-from (suc n) s e h =
+      owed-step s (keeps q s) (judgedFrom q n (suc s)) (omega arith) h refl (λ kept. owed-from n (suc s) (omega arith) (one-more s h kept))
 
 owed-by-length : (q : List ℕ) (b : Bool) → wrongLength (length q) ≡ b → Owed q (ifWrong b (judged q))
 unfolding ifWrong judged

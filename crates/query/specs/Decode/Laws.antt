@@ -74,7 +74,9 @@ module _ (q : List ℕ) (bytes : Bytes q) where
   HangFrom : ℕ → ℕ → Type 0
   HangFrom n s = (t : ℕ) → s ≤ t → t < s + n → hangRule q t ≡ true
 
-  rules-step : (n s : ℕ) → rules (decodeFrom q (suc n) s) (suc s) (nearest q s) ≡ (hangRule q s && rules (decodeFrom q n (suc s)) (suc (suc s)) (nearest q (suc s)))
+  rules-step :
+      (n s : ℕ) →
+      rules (decodeFrom q (suc n) s) (suc s) (nearest q s) ≡ (hangRule q s && rules (decodeFrom q n (suc s)) (suc (suc s)) (nearest q (suc s)))
   unfolding decodeFrom decodeStep rules nearest
   rules-step n s = rw (hangRule-is q s, le-leb _ _ (name-small s))
 

@@ -1,4 +1,4 @@
--- `system::close` meets its contract. Assumes nothing.
+-- `close` makes the call and leaves its mark, that the file was closed. Assumes nothing.
 use borrow.Author.Needs.{needs}
 use Rattle.system.specs.Marks.Seal.{closed}
 use Rattle.system.proofs.close.Statement.{statement}

@@ -1,4 +1,4 @@
--- `system::open` meets its contract. Assumes nothing.
+-- `open` makes the call and leaves its mark, that the file was opened by this path. Assumes nothing.
 use borrow.Author.Needs.{needs}
 use Rattle.system.specs.Marks.Seal.{opened}
 use Rattle.system.proofs.open.Statement.{statement}

@@ -1,4 +1,5 @@
--- `system::read_at` meets its contract. Assumes nothing.
+-- `read_at` makes one read into the rest of `input` and leaves its marks; `read-part` says what the whole of `input` then is.
+-- Assumes nothing.
 use borrow.Author.Needs.{needs}
 use Rattle.system.specs.ReadPart.{read-part}
 use Rattle.system.specs.Marks.Seal.{gave, over}
@@ -34,8 +35,9 @@ same-length c = search needs
 
 returns : tie.Need-returns
 returns c =
-    let a = c .before .before .before .before .before .before .before .before .before .args in
-    let put = c .before .before .before .before .before .read .last .1 .0 in
+    let at-read = c .before .before .before .before .before in
+    let a = at-read .before .before .before .before .args in
+    let put = at-read .read .last .1 .0 in
     read-part (a .file) (a .at) (a .input .now) put _ (search needs) (search needs) (c .count .ensures .0 .0) (gave _ _) (over _)
 
 pub read-at-spec : {M : Type 1} → statement M

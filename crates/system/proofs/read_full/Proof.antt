@@ -1,4 +1,4 @@
--- `system::read_full` meets its contract. Assumes nothing.
+-- `read_full` makes the reads and leaves their marks; that what came is counted, `io::read_full` ensures. Assumes nothing.
 use borrow.Author.Needs.{needs}
 use Rattle.system.specs.Marks.Seal.{gave, over}
 use Rattle.system.proofs.read_full.Statement.{statement}

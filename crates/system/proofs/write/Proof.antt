@@ -1,4 +1,4 @@
--- `system::write` meets its contract. Assumes nothing.
+-- `write` makes the call and leaves its mark, that the bytes were handed over and whether all were taken. Assumes nothing.
 use borrow.Author.Needs.{needs}
 use Rattle.system.specs.Marks.Seal.{handed}
 use Rattle.system.proofs.write.Statement.{statement}
