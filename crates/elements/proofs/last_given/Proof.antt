@@ -1,8 +1,12 @@
+-- The definition. Assumes nothing.
+use mathlib.Core.Path.{refl}
+use Rattle.plan.specs.Plan.{lastGiven}
 use Rattle.elements.proofs.last_given.Statement.{statement}
 use Rattle.elements.proofs.last_given.Tie as tie
 
 returns : tie.Need-returns
-returns c = ?
+unfolding lastGiven
+returns c = refl
 
 pub last-given-spec : {M : Type 1} → statement M
 last-given-spec = tie.close (tie.spec returns)

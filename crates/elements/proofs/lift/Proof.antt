@@ -1,4 +1,8 @@
+-- The definition. Assumes nothing.
 use borrow.Author.Needs.{needs}
+use mathlib.Core.Path.{ap₂}
+use lib.Bits.{bitAnd, bitOr}
+use Rattle.plan.specs.Plan.{lift}
 use Rattle.elements.proofs.lift.Statement.{statement}
 use Rattle.elements.proofs.lift.Tie as tie
 
@@ -9,7 +13,8 @@ predicates-requires : tie.Need-predicates-requires
 predicates-requires c κs = search needs
 
 returns : tie.Need-returns
-returns c = ?
+unfolding lift
+returns c = ap₂ (λ p s. bitOr p (bitAnd (c .before .before .before .args .below) s)) (c .predicates .ensures) (c .before .steps .ensures)
 
 pub lift-spec : {M : Type 1} → statement M
 lift-spec = tie.close (tie.spec steps-requires predicates-requires returns)

@@ -18,7 +18,8 @@ use Rattle.sets.specs.Set.{join, meet, without}
 use Rattle.plan.specs.Plan.{Plan, named, meets, lift, turn}
 use Rattle.engine.specs.Quick.{Frame, Rise, raised, rise, refreshed, refresh, fresh, framesAfter, sureAt, possAt}
 use Rattle.engine.specs.Quick.Snoc.{rise-snoc-stop, rise-snoc-on, rise-length}
-use Rattle.element.specs.Element.{Elements, noFrame, frameAt, raisedIn, refreshedIn, openedIn}
+use Rattle.element.specs.Element.{mostOpen, Elements, elementsIn, noFrame, frameAt, raisedIn, refreshedIn, openedIn}
+use Rattle.element.specs.Element.Laws.{frames-length}
 use Rattle.elements.specs.Elements.{with, Risen, risenBy, risenIn, refreshedFrom, pushedBy, pushedIn}
 
 -- the first j + 1 are the first j and one more
@@ -29,9 +30,9 @@ module _ (P : Plan) (news at : ℕ) (E : Elements) (some : 0 < at) (fits : at �
   abbrev f : Frame
   f = frameAt E (at - 1)
 
-  pub rise-stop : join (f .below) news ≡ f .below → _≡_ {A = Risen} (record { top = at; elements = E }) (risenIn P news at E)
+  stop-is : join (f .below) news ≡ f .below → _≡_ {A = Risen} (record { top = at; elements = E }) (risenIn P news at E)
   unfolding risenIn
-  rise-stop e =
+  stop-is e =
       sym
       (ap (λ fs. risenBy at E (rise P news fs)) (snoc (E .list) at some fits)
       ∙ ap (risenBy at E) (rise-snoc-stop P news (take (at - 1) (E .list)) f e)
@@ -40,12 +41,12 @@ module _ (P : Plan) (news at : ℕ) (E : Elements) (some : 0 < at) (fits : at �
       (length-take-le at (E .list) fits)
       (ap (λ fs. fs ++ drop at (E .list)) (append-nil (take at (E .list))) ∙ take-append-drop at (E .list)))
 
-  pub rise-step :
+  step-is :
       (m news′ : ℕ) (E′ : Elements) → (join (f .below) news ≡ f .below → ⊥) → m ≡ meets P (f .pass) (join (f .below) news) →
       E′ ≡ raisedIn (at - 1) (join (f .below) news) m E → news′ ≡ lift P m (join (f .below) news) →
       risenIn P news′ (at - 1) E′ ≡ risenIn P news at E
   unfolding risenIn raisedIn raised
-  rise-step m news′ E′ ne em ee en =
+  step-is m news′ E′ ne em ee en =
       let new : ℕ = join (f .below) news in
       let i : ℕ = at - 1 in
       let r : Rise = rise P (lift P (meets P (f .pass) new) new) (take i (E .list)) in
@@ -61,6 +62,23 @@ module _ (P : Plan) (news at : ℕ) (E : Elements) (some : 0 < at) (fits : at �
     where
       risenBy′ : Rise → List Frame → Risen
       risenBy′ r gs = record { top = length (r .kept); elements = with ((r .kept ++ r .risen) ++ gs) E }
+
+-- by what is read of the element: old is met in its content, and its name passes `pass`
+module _ (P : Plan) (news at : ℕ) (bs : List ℕ) (old : ℕ) (some : 0 < at) (fits : at ≤ mostOpen) (eo : old ≡ frameAt (elementsIn bs) (at - 1) .below) where
+  in-list : at ≤ length (elementsIn bs .list)
+  in-list = omega (arith, frames-length bs)
+
+  pub rise-stop : join old news ≡ old → _≡_ {A = Risen} (record { top = at; elements = elementsIn bs }) (risenIn P news at (elementsIn bs))
+  rise-stop e = stop-is P news at (elementsIn bs) some in-list (ap (λ o. join o news) (sym eo) ∙ e ∙ eo)
+
+  pub rise-step :
+      (pass m news′ : ℕ) (E′ : Elements) → pass ≡ frameAt (elementsIn bs) (at - 1) .pass → (join old news ≡ old → ⊥) → m ≡ meets P pass (join old news) →
+      E′ ≡ raisedIn (at - 1) (join old news) m (elementsIn bs) → news′ ≡ lift P m (join old news) →
+      risenIn P news′ (at - 1) E′ ≡ risenIn P news at (elementsIn bs)
+  rise-step pass m news′ E′ ep ne em ee en =
+      let j : join old news ≡ join (frameAt (elementsIn bs) (at - 1) .below) news = ap (λ o. join o news) eo in
+      step-is P news at (elementsIn bs) some in-list m news′ E′ (λ e. ne (j ∙ e ∙ sym eo)) (em ∙ ap₂ (meets P) ep j)
+      (ee ∙ ap (λ n. raisedIn (at - 1) n m (elementsIn bs)) j) (en ∙ ap (lift P m) j)
 
 pub rise-done : (P : Plan) (news at : ℕ) (E : Elements) → at ≤ 0 → _≡_ {A = Risen} (record { top = at; elements = E }) (risenIn P news at E)
 unfolding risenIn rise
@@ -182,13 +200,13 @@ module _ (P : Plan) (x depth : ℕ) (E : Elements) (fits : depth < length (E .li
       (ap (drop (depth + 1)) (sym (append-assoc ks rs zs)) ∙ drop-at (ks ++ rs) zs (depth + 1) both))
       ∙ ap (λ l. with l E) (sym (append-assoc ks (refresh P s rs) zs))
 
-  pub push-parts :
+  push-all :
       (p m possible top around : ℕ) (E₁ E₂ E₃ : Elements) → p ≡ named P x → m ≡ meet p (P .plain) → possible ≡ turn P p (possAt P (E .list) depth) →
       _≡_ {A = Risen} (record { top = top; elements = E₁ }) (risenIn P (without m (P .main)) depth E) → around ≡ sureAt P (E₁ .list) top →
       E₂ ≡ openedIn depth x p m possible E₁ → E₃ ≡ refreshedFrom P around top (depth + 1) E₂ →
       _≡_ {A = Risen} (record { top = top; elements = E₃ }) (pushedIn P x depth E)
   unfolding risenIn pushedIn openedIn framesAfter fresh
-  push-parts p m possible top around E₁ E₂ E₃ ep em eo er ea e₂ e₃ =
+  push-all p m possible top around E₁ E₂ E₃ ep em eo er ea e₂ e₃ =
       let l : List Frame = E .list in
       let pm : m ≡ meet (named P x) (P .plain) = em ∙ ap (λ q. meet q (P .plain)) ep in
       let r : _≡_ {A = Risen} (record { top = top; elements = E₁ }) (risenBy depth E risen) = er ∙ ap (λ n. risenIn P (without n (P .main)) depth E) pm in
@@ -211,3 +229,13 @@ module _ (P : Plan) (x depth : ℕ) (E : Elements) (fits : depth < length (E .li
       e₂ ∙ ap (openedIn depth x p m possible) one ∙ ap (λ f. with (set (all ++ drop depth l) depth f) E) n ∙ ap (λ k. with k E) (opened-list new) in
       ap₂ (λ (a : ℕ) (b : Elements). record { top = a; elements = b }) t
       (e₃ ∙ ap₂ (λ a b. refreshedFrom P a b (depth + 1) E₂) u t ∙ ap (refreshedFrom P s (length (risen .kept)) (depth + 1)) two ∙ refreshed-list s new)
+
+pub push-parts :
+    (P : Plan) (x depth : ℕ) (bs : List ℕ) → depth < mostOpen → (p plain around possible news top sure : ℕ) (E₁ E₂ E₃ : Elements) →
+    p ≡ named P x → plain ≡ P .plain → around ≡ possAt P (elementsIn bs .list) depth → possible ≡ turn P p around → news ≡ without (meet p plain) (P .main) →
+    _≡_ {A = Risen} (record { top = top; elements = E₁ }) (risenIn P news depth (elementsIn bs)) → sure ≡ sureAt P (E₁ .list) top →
+    E₂ ≡ openedIn depth x p (meet p plain) possible E₁ → E₃ ≡ refreshedFrom P sure top (depth + 1) E₂ →
+    _≡_ {A = Risen} (record { top = top; elements = E₃ }) (pushedIn P x depth (elementsIn bs))
+push-parts P x depth bs h p plain around possible news top sure E₁ E₂ E₃ ep el ea eo en er es e₂ e₃ =
+    push-all P x depth (elementsIn bs) (omega (arith, frames-length bs)) p (meet p plain) possible top sure E₁ E₂ E₃ ep (ap (meet p) el)
+    (eo ∙ ap (turn P p) ea) (er ∙ ap (λ n. risenIn P n depth (elementsIn bs)) en) es e₂ e₃
