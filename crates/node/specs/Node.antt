@@ -3,7 +3,7 @@
 --   mostHeld            how many records there are
 --   shape               a node's record: its waiting node (crate engine, Quick) is its first numbers, one for each field
 --   nodesRoom           how many bytes the records take
---   Nodes               all records: their waiting nodes, used or not, and their spare numbers;  nodesIn bs: those in bytes
+--   Queue               all records: their waiting nodes, used or not, and their spare numbers;  queueIn bs: those in bytes
 --   nodeAt N i          the waiting node of record i
 --   wroteIn             what `write` does, to record i alone
 --
@@ -30,17 +30,17 @@ shape = record { count = mostHeld; wide = 8; fields = 3; make = waitingOf; field
 unfoldable pub nodesRoom : ℕ
 nodesRoom = room shape
 
-abbrev pub Nodes : Type 0
-Nodes = Records Waiting
+abbrev pub Queue : Type 0
+Queue = Records Waiting
 
-unfoldable pub nodesIn : List ℕ → Nodes
-nodesIn bs = recordsIn shape bs
+unfoldable pub queueIn : List ℕ → Queue
+queueIn bs = recordsIn shape bs
 
 abbrev pub noNode : Waiting
 noNode = blank shape
 
-abbrev pub nodeAt : Nodes → ℕ → Waiting
+abbrev pub nodeAt : Queue → ℕ → Waiting
 nodeAt N i = at shape N i
 
-unfoldable pub wroteIn : ℕ → ℕ → ℕ → ℕ → Nodes → Nodes
+unfoldable pub wroteIn : ℕ → ℕ → ℕ → ℕ → Queue → Queue
 wroteIn i node level need N = setAt i (record { node = node; level = level; need = need }) N

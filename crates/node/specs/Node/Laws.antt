@@ -19,7 +19,7 @@ use Rattle.words.specs.Words.{words, Bytes}
 use Rattle.words.specs.Records.{setAt, room, withField, putAt, recordsIn, laid}
 use Rattle.words.specs.Records.Laws as records
 use Rattle.words.specs.Records.Laws.{Whole}
-use Rattle.node.specs.Node.{mostHeld, waitingOf, fieldOf, shape, nodesRoom, Nodes, nodesIn, nodeAt, wroteIn}
+use Rattle.node.specs.Node.{mostHeld, waitingOf, fieldOf, shape, nodesRoom, Queue, queueIn, nodeAt, wroteIn}
 
 same-node : (r s : ℕ → ℕ) → r 0 ≡ s 0 → r 1 ≡ s 1 → r 2 ≡ s 2 → waitingOf r ≡ waitingOf s
 same-node r s e₀ e₁ e₂ = cc
@@ -43,41 +43,41 @@ pub room-is : nodesRoom ≡ 32 * mostHeld
 unfolding nodesRoom room
 room-is = omega arith
 
-pub nodes-length : (bs : List ℕ) → length (nodesIn bs .list) ≡ mostHeld
-unfolding nodesIn
+pub nodes-length : (bs : List ℕ) → length (queueIn bs .list) ≡ mostHeld
+unfolding queueIn
 nodes-length bs = records.list-length shape whole bs
 
 pub get-is :
-    (bs : List ℕ) (i g r : ℕ) → i < mostHeld → g < 3 → r ≡ getD (words bs) (8 * i + g) 0 → r ≡ fieldOf g (nodeAt (nodesIn bs) i)
-unfolding nodesIn
+    (bs : List ℕ) (i g r : ℕ) → i < mostHeld → g < 3 → r ≡ getD (words bs) (8 * i + g) 0 → r ≡ fieldOf g (nodeAt (queueIn bs) i)
+unfolding queueIn
 get-is bs i g r hi hg e = records.get-is shape whole bs i g r hi hg e
 
 pub put-is :
     (bs bs′ : List ℕ) (i g v : ℕ) → length bs ≡ nodesRoom → i < mostHeld → g < 3 → words bs′ ≡ set (words bs) (8 * i + g) v →
-    nodesIn bs′ ≡ putAt shape i g v (nodesIn bs)
-unfolding nodesIn nodesRoom
+    queueIn bs′ ≡ putAt shape i g v (queueIn bs)
+unfolding queueIn nodesRoom
 put-is bs bs′ i g v long hi hg e = records.put-is shape whole bs bs′ i g v long hi hg e
 
 module _ (bs : List ℕ) (i : ℕ) (h : i < mostHeld) where
-  abbrev N : Nodes
-  N = nodesIn bs
+  abbrev N : Queue
+  N = queueIn bs
 
-  again : (w : Waiting) (g : Waiting → Waiting) (N₁ N₂ : Nodes) → N₁ ≡ setAt i w N → N₂ ≡ setAt i (g (nodeAt N₁ i)) N₁ → N₂ ≡ setAt i (g w) N
+  again : (w : Waiting) (g : Waiting → Waiting) (N₁ N₂ : Queue) → N₁ ≡ setAt i w N → N₂ ≡ setAt i (g (nodeAt N₁ i)) N₁ → N₂ ≡ setAt i (g w) N
   again = records.again shape whole i N (omega (arith, nodes-length bs))
 
   pub write-parts :
-      (node level need : ℕ) (N₁ N₂ N₃ : Nodes) → N₁ ≡ putAt shape i 0 node N → N₂ ≡ putAt shape i 1 level N₁ → N₃ ≡ putAt shape i 2 need N₂ →
+      (node level need : ℕ) (N₁ N₂ N₃ : Queue) → N₁ ≡ putAt shape i 0 node N → N₂ ≡ putAt shape i 1 level N₁ → N₃ ≡ putAt shape i 2 need N₂ →
       N₃ ≡ wroteIn i node level need N
   unfolding putAt wroteIn
   write-parts node level need N₁ N₂ N₃ e₁ e₂ e₃ =
       let s₂ = again _ (withField shape 1 level) N₁ N₂ e₁ e₂ in
       again _ (withField shape 2 need) N₂ N₃ s₂ e₃ ∙ ap (λ w. setAt i w N) (unfold pick in refl)
 
-pub nodes-laid : (bs : List ℕ) → length bs ≡ nodesRoom → Bytes bs → laid shape (nodesIn bs) ≡ bs
-unfolding nodesIn nodesRoom
+pub nodes-laid : (bs : List ℕ) → length bs ≡ nodesRoom → Bytes bs → laid shape (queueIn bs) ≡ bs
+unfolding queueIn nodesRoom
 nodes-laid = records.records-laid shape whole
 
 pub nodes-same :
-    (bs cs : List ℕ) → length bs ≡ nodesRoom → length cs ≡ nodesRoom → Bytes bs → Bytes cs → nodesIn bs ≡ nodesIn cs → bs ≡ cs
-unfolding nodesIn nodesRoom
+    (bs cs : List ℕ) → length bs ≡ nodesRoom → length cs ≡ nodesRoom → Bytes bs → Bytes cs → queueIn bs ≡ queueIn cs → bs ≡ cs
+unfolding queueIn nodesRoom
 nodes-same = records.records-same shape whole

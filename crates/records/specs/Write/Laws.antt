@@ -5,18 +5,20 @@
 --   length-nodes        k list records are k nodes
 --   nodesIn-append      nodes that were written as list records are read as the nodes, and then those of the records behind them
 --   nodesIn-recordsOf   the same where no more are read
+--   buffer-none, buffer-snoc      no record at the start of the buffer; one record more
+--   buffer-length       the buffer is as long as it was
 --
 -- Assumes nothing.
-use Prim.Native.Nat.{ℕ, zero, suc, _+_, _*_, _/_, _%_, _<_}
+use Prim.Native.Nat.{ℕ, zero, suc, _+_, _-_, _*_, _/_, _%_, _≤_, _<_}
 use native.Mathlib.Nat.{zero-add, add-zero, suc-add, div-div-eq-div-mul}
 use native.Mathlib.Numerals.{add-one}
 use native.Mathlib.Omega.{arith}
 use mathlib.Core.Path.{_≡_, refl, sym, ap, ap₂, _∙_}
 use mathlib.Core.List.{List, [], _∷_, _++_, append-nil, append-assoc}
-use lib.ListN.{length, getD, set, length-append}
-use lib.Seq.{sets}
+use lib.ListN.{length, getD, drop, set, length-append, length-drop}
+use lib.Seq.{sets, sets-eq, take-at, drop-at, drop-drop}
 use Rattle.choice.specs.Count.{add-two, add-three}
-use Rattle.records.specs.Write.{nodeBytes, recordsOf, nodeAt, nodesIn}
+use Rattle.records.specs.Write.{nodeBytes, recordsOf, nodeAt, nodesIn, buffer}
 
 pub sets-four :
     (l : List ℕ) (at a b c d : ℕ) → set (set (set (set l at a) (at + 1) b) (at + 2) c) (at + 3) d ≡ sets l at (a ∷ b ∷ c ∷ d ∷ [])
@@ -79,3 +81,31 @@ pub nodesIn-recordsOf : (ns rest : List ℕ) → Nodes ns → nodesIn (length ns
 unfolding nodesIn
 nodesIn-recordsOf ns rest h =
     ap (λ m. nodesIn m (recordsOf ns ++ rest)) (sym (add-zero (length ns))) ∙ nodesIn-append ns rest 0 h ∙ append-nil ns
+
+pub buffer-none : (out : List ℕ) → buffer [] out ≡ out
+unfolding buffer recordsOf
+buffer-none out = refl
+
+module _ (ns : List ℕ) (n : ℕ) (out : List ℕ) where
+  records-snoc : recordsOf (ns ++ (n ∷ [])) ≡ recordsOf ns ++ nodeBytes n
+  unfolding recordsOf
+  records-snoc = records-append ns (n ∷ [])
+
+  pub buffer-snoc : 4 * length ns + 4 ≤ length out → sets (buffer ns out) (4 * length ns) (nodeBytes n) ≡ buffer (ns ++ (n ∷ [])) out
+  unfolding buffer
+  buffer-snoc h =
+      let k : ℕ = 4 * length ns in
+      let d : length (drop k out) ≡ length out - k = length-drop k out in
+      let l : length (recordsOf ns ++ drop k out) ≡ length (recordsOf ns) + length (drop k out) = length-append (recordsOf ns) (drop k out) in
+      let r : length (recordsOf ns) ≡ k = length-records ns in
+      let e : 4 * length (ns ++ (n ∷ [])) ≡ k + 4 = omega (arith, length-append ns (n ∷ [])) in
+      sets-eq (nodeBytes n) (recordsOf ns ++ drop k out) k (omega arith)
+      ∙ ap₂ (λ x y. x ++ nodeBytes n ++ y)
+      (take-at (recordsOf ns) _ k r)
+      (sym (drop-drop 4 k _) ∙ ap (drop 4) (drop-at (recordsOf ns) _ k r) ∙ drop-drop 4 k out)
+      ∙ sym (ap₂ (λ x y. x ++ drop y out) records-snoc e)
+
+pub buffer-length : (ns out : List ℕ) → 4 * length ns ≤ length out → length (buffer ns out) ≡ length out
+unfolding buffer
+buffer-length ns out h =
+    omega (arith, length-append (recordsOf ns) (drop (4 * length ns) out), length-records ns, length-drop (4 * length ns) out)
