@@ -150,18 +150,18 @@ fn refresh(kept: &[u8], elements: &mut [u8], ready: u32, from: usize, to: usize)
     }
 }
 
-// A new innermost element named `x` under `depth` open ones. Returns how many of them stayed as they were.
-pub fn push(kept: &[u8], elements: &mut [u8], x: u32, depth: usize) -> usize
+// A new innermost element named `x`, which passes the name tests of `pass`, under `depth` open ones. Returns how many of them stayed as they were.
+pub fn push(kept: &[u8], elements: &mut [u8], x: u32, pass: u32, depth: usize) -> usize
     requires { ⌜ (length (now kept) ≡ planRoom) × ((length (now elements) ≡ elementsRoom) × (depth < mostOpen)) ⌝ }
+    requires { ⌜ pass ≡ named (keptIn (now kept)) x ⌝ }
     ensures { λ r. ⌜ record { top = r; elements = elementsIn (now (elements .exit)) } ≡ pushedIn (keptIn (now (kept .entry))) x depth (elementsIn (now (elements .entry))) ⌝ }
     ensures { λ r. ⌜ r ≤ depth ⌝ }
 {
-    let p = named(kept, x);
-    let m = p & plan_bytes::steps(kept, plan_bytes::PLAIN);
-    let possible = turn(kept, p, possible_at(kept, &*elements, depth));
+    let m = pass & plan_bytes::steps(kept, plan_bytes::PLAIN);
+    let possible = turn(kept, pass, possible_at(kept, &*elements, depth));
     let top = rise(kept, elements, depth, predicates(kept, m));
     let around = sure_at(kept, &*elements, top);
-    element::open(elements, depth, x, p, m, possible);
+    element::open(elements, depth, x, pass, m, possible);
     refresh(kept, elements, around, top, depth + 1);
     top
 }

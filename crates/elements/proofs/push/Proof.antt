@@ -6,9 +6,6 @@ use Rattle.elements.specs.Elements.Laws.{push-parts}
 use Rattle.elements.proofs.push.Statement.{statement}
 use Rattle.elements.proofs.push.Tie as tie
 
-named-requires : tie.Need-named-requires
-named-requires c κs = search needs
-
 steps-requires : tie.Need-steps-requires
 steps-requires c κs = search needs
 
@@ -46,9 +43,9 @@ returns c = let refreshed = c .before .before in
     let read = made .before .before in
     let risen = read .before .before .before .before in
     let turned = risen .before .before .before in
-    let named = turned .before .before .before .before in
-    let start = named .before .before .before in
-    (push-parts _ _ _ _ (start .pre .1 .1) _ _ _ _ _ _ _ _ _ _ (named .named .ensures) (turned .before .before .before .steps .ensures)
+    let steps = turned .before .before .before in
+    let start = steps .before .before .before in
+    (push-parts _ _ _ _ (start .pre .0 .1 .1) _ _ _ _ _ _ _ _ _ _ (start .pre .1) (steps .steps .ensures)
     (turned .before .possible-at .ensures) (turned .turn .ensures) (risen .before .predicates .ensures) (risen .rise .ensures .0) (read .sure-at .ensures)
     (made .«open» .ensures) (refreshed .refresh .ensures), risen .rise .ensures .1)
 
@@ -56,7 +53,6 @@ pub push-spec : {M : Type 1} → statement M
 push-spec =
     tie.close
     (tie.spec
-    named-requires
     steps-requires
     possible-at-requires
     turn-requires

@@ -1,0 +1,44 @@
+// The limits of a session and the refusal numbers, each in this one place of the code; crate meaning, Limits and Answer, has them for the definitions.
+
+// "A session holds at most 256 open elements and at most 1,024 held nodes"
+pub const DEPTH: usize = 256;
+
+pub const HELD: usize = 1024;
+
+// "an open when 16,777,215 nodes have been opened"
+pub const NODES: u32 = 16777215;
+
+// "The buffer must have at least 4,100 bytes"
+pub const OUTPUT: usize = 4100;
+
+// "64 bytes for each open element" and "32 bytes for each waiting node"
+pub const ELEMENTS_ROOM: usize = 16384;
+
+pub const NODES_ROOM: usize = 32768;
+
+// "output buffer under 4,100 bytes"
+pub const SHORT_OUTPUT: u8 = 1;
+
+// "not 8 bytes, or a bad record"
+pub const BAD_RECORD: u8 = 2;
+
+// "the document element has been closed"
+pub const AFTER_END: u8 = 3;
+
+// "a close with nothing open, or with another name than the innermost open element"
+pub const WRONG_CLOSE: u8 = 4;
+
+// "an open at depth 256"
+pub const TOO_DEEP: u8 = 5;
+
+// "an open when 16,777,215 nodes have been opened"
+pub const TOO_MANY_NODES: u8 = 6;
+
+// "an open after which more than 1,024 nodes would be held"
+pub const TOO_MANY_HELD: u8 = 7;
+
+// "no document element yet, or it is still open"
+pub const UNFINISHED: u8 = 8;
+
+// "lent room too small"
+pub const SHORT_ROOM: u8 = 15;

@@ -1,0 +1,162 @@
+-- What one event does to the session's numbers, both lent rooms and the buffer, for all their values: the engine's own functions (crate engine, Quick) on
+-- the records in use, the others as they were.
+--
+--   outputNeeded              the least length of the output buffer
+--   OpenFits n, CloseFits n   what is known of the numbers where no refusal by them applies
+--   refuseOpen n, refuseClose n E x      the lowest refusal that the numbers, and for a close of x the innermost name, decide; 0 for none
+--   usedIn depth held E N     the engine's state of the records in use
+--   goingOf o                 which nodes go at the opening o
+--   Opened, openingIn P x depth held E N       an opening of x: which nodes go, and the open elements
+--   allGo, noPlace            all that wait go, and the new node with them; the new node has no place
+--   overIn P x depth held E N      an opening of x leaves more nodes waiting than there are records
+--   After, after              what an event comes to: its refusal, or 0, how many nodes were handed out, and all that was lent
+--   refusedWith r n E N out   a refusal: all as it was
+--   onOpen, onClose           an open and a close of x
+--   step P e n E N out        the event e
+--
+-- Numbers that no calls lead to may be past every limit: an open or a close is then refused too, so that no record is left.
+-- Assumes nothing. NOT here: that the engine's state is what the rooms then hold (Step.Engine).
+pub mod Laws
+use Prim.Native.Nat.{ℕ, _+_, _-_, _*_, _%_, _^_, _≤_, _<_}
+use mathlib.Core.Bool.{Bool, true, false, not}
+use mathlib.Core.List.{List, [], _++_}
+use mir.Val.{boolByte}
+use lib.Dec.{eqb, leb, ltb}
+use lib.ListN.{length, take, drop}
+use Rattle.choice.specs.Pick.{pick}
+use Rattle.records.specs.declared.Event.{Event}
+use Rattle.records.specs.declared.Event.the-variants.{Open, Close, Bad}
+use Rattle.plan.specs.Plan.{Plan}
+use Rattle.engine.specs.Quick.{State, Opening, opening, over, possAt, cut, wentIf}
+use Rattle.element.specs.Element.{mostOpen, Elements, frameAt}
+use Rattle.elements.specs.Elements as elements
+use Rattle.node.specs.Node.{mostHeld, Queue}
+use Rattle.nodes.specs.declared.Going.{Going}
+use Rattle.nodes.specs.Nodes.{levelOf, Moved, movedFrom, Handed, handedOut, Joined, joined}
+use Rattle.numbers.specs.Numbers.{Numbers, numbersOf}
+
+-- a list record has 4 bytes, and all held nodes and the newly opened one can go at once
+unfoldable pub outputNeeded : ℕ
+outputNeeded = 4 * mostHeld + 4
+
+abbrev pub nodeLimit : ℕ
+nodeLimit = 16777215
+
+-- "3: the document element has been closed", "5: an open at depth 256", "6: an open when 16,777,215 nodes have been opened"
+unfoldable pub refuseOpen : Numbers → ℕ
+refuseOpen n =
+    pick (not (eqb (n .ended) 0)) 3
+    (pick (leb mostOpen (n .depth)) 5
+    (pick (leb nodeLimit (n .opened)) 6
+    (pick (ltb mostHeld (n .held)) 7 0)))
+
+pub record OpenFits (n : Numbers) : Type 0 where
+  pub deep : n .depth < mostOpen
+  pub few : n .opened < nodeLimit
+  pub held : n .held ≤ mostHeld
+
+-- "3: the document element has been closed", "4: a close with nothing open, or with another name than the innermost open element"
+unfoldable pub refuseClose : Numbers → Elements → ℕ → ℕ
+refuseClose n E x =
+    pick (not (eqb (n .ended) 0)) 3
+    (pick (eqb (n .depth) 0) 4
+    (pick (ltb mostOpen (n .depth)) 4
+    (pick (eqb (frameAt E (n .depth - 1) .name) x) (pick (ltb mostHeld (n .held)) 7 0) 4)))
+
+pub record CloseFits (n : Numbers) : Type 0 where
+  pub some : 0 < n .depth
+  pub deep : n .depth ≤ mostOpen
+  pub held : n .held ≤ mostHeld
+
+unfoldable pub usedIn : ℕ → ℕ → Elements → Queue → State
+usedIn depth held E N = record { frames = take depth (E .list); queue = take held (N .list); opened = 0; handed = 0; ended = false }
+
+unfoldable pub goingOf : Opening → Going
+goingOf o = record { went = o .went; all = o .all; joins = o .joins }
+
+pub record Opened : Type 0 where
+  pub going : Going
+  pub elements : Elements
+
+-- by what the opening comes to
+abbrev pub openedBy : ℕ → Elements → Opening → Opened
+openedBy depth E o = record { going = goingOf o; elements = elements.with (o .frames ++ drop (depth + 1) (E .list)) E }
+
+unfoldable pub openingIn : Plan → ℕ → ℕ → ℕ → Elements → Queue → Opened
+openingIn P x depth held E N = openedBy depth E (opening P x (usedIn depth held E N))
+
+unfoldable pub allGo : ℕ → ℕ → Bool → Bool
+allGo went held certain = pick certain (eqb went held) false
+
+unfoldable pub noPlace : Bool → Bool → ℕ → ℕ → Bool
+noPlace all joins went held = pick all false (pick joins (leb mostHeld (held - went)) false)
+
+-- "7: an open after which more than 1,024 nodes would be held"
+unfoldable pub overIn : Plan → ℕ → ℕ → ℕ → Elements → Queue → Bool
+overIn P x depth held E N = over mostHeld (usedIn depth held E N) (opening P x (usedIn depth held E N))
+
+pub record After : Type 0 where
+  pub refusal : ℕ
+  pub given : ℕ
+  pub numbers : Numbers
+  pub elements : Elements
+  pub nodes : Queue
+  pub out : List ℕ
+
+abbrev pub after : ℕ → ℕ → Numbers → Elements → Queue → List ℕ → After
+after refusal given n E N out = record { refusal = refusal; given = given; numbers = n; elements = E; nodes = N; out = out }
+
+abbrev pub refusedWith : ℕ → Numbers → Elements → Queue → List ℕ → After
+refusedWith r n E N out = after r 0 n E N out
+
+-- an open, by which nodes go and what becomes of them
+
+abbrev pub openWith : Numbers → Opened → Joined → After
+openWith n o j =
+    let given : ℕ = o .going .went + boolByte (o .going .all) in
+    after 0 given (numbersOf (n .depth + 1) (j .held) (n .opened + 1) ((n .handed + given) % 2 ^ 32) 0) (o .elements) (j .queue) (j .out)
+
+abbrev pub openBy : Numbers → Queue → List ℕ → Opened → After
+openBy n N out o = openWith n o (joined (o .going) (n .held) (n .opened + 1) (n .depth + 1) N out)
+
+unfoldable pub openTaken : Plan → ℕ → Numbers → Elements → Queue → List ℕ → After
+openTaken P x n E N out = openBy n N out (openingIn P x (n .depth) (n .held) E N)
+
+unfoldable pub onOpen : Plan → ℕ → Numbers → Elements → Queue → List ℕ → After
+onOpen P x n E N out =
+    pick (eqb (refuseOpen n) 0)
+    (pick (overIn P x (n .depth) (n .held) E N) (refusedWith 7 n E N out) (openTaken P x n E N out))
+    (refusedWith (refuseOpen n) n E N out)
+
+-- a close, by the nodes that still wait and how many of them go
+
+abbrev pub closeWith : Numbers → Elements → ℕ → ℕ → Handed → After
+closeWith n E left went h =
+    after 0 went
+    (numbersOf (n .depth - 1) (left - went) (n .opened) ((n .handed + went) % 2 ^ 32) (boolByte (eqb (n .depth - 1) 0))) E (h .queue) (h .out)
+
+abbrev pub closeOut : Numbers → Elements → List ℕ → Moved → ℕ → After
+closeOut n E out w went = closeWith n E (w .held) went (handedOut went (w .held) (w .queue) out)
+
+abbrev pub closeBy : Plan → Numbers → Elements → List ℕ → Moved → After
+closeBy P n E out w =
+    closeOut n E out w (wentIf (ltb (w .held) (n .held)) P (take (n .depth - 1) (E .list)) (take (w .held) (w .queue .list)))
+
+-- where the nodes of the innermost element begin
+abbrev pub closeFrom : Plan → Numbers → Elements → Queue → List ℕ → ℕ → After
+closeFrom P n E N out from =
+    closeBy P n E out
+    (movedFrom P (frameAt E (n .depth - 1) .met) (possAt P (E .list) (n .depth - 1)) (n .depth - 1) (n .held) from from N)
+
+unfoldable pub closeTaken : Plan → Numbers → Elements → Queue → List ℕ → After
+closeTaken P n E N out = closeFrom P n E N out (length (cut levelOf (n .depth) (take (n .held) (N .list)) .before))
+
+unfoldable pub onClose : Plan → ℕ → Numbers → Elements → Queue → List ℕ → After
+onClose P x n E N out =
+    pick (eqb (refuseClose n E x) 0) (closeTaken P n E N out) (refusedWith (refuseClose n E x) n E N out)
+
+-- "2: not 8 bytes, or a bad record"
+unfoldable pub step : Plan → Event → Numbers → Elements → Queue → List ℕ → After
+step P (Open x) n E N out = onOpen P x n E N out
+step P (Close x) n E N out = onClose P x n E N out
+step P Bad n E N out = refusedWith 2 n E N out

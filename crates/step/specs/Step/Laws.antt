@@ -1,0 +1,239 @@
+-- What the calls of a function give together, over what each call answered.
+--
+--   opening-told            which nodes go at an opening, and the open elements
+--   over-not, over-joins    below the brim, or where the new node is ruled out, no place is wanting
+--   copy-step, copy-done    one byte more is copied; all are
+--   open-refused, open-full, open-done      an open that its numbers refuse; refusal 7; one that is taken
+--   close-refused, close-done               a close that is refused; one that is taken
+--
+-- What is large is given explicitly. Assumes nothing.
+use Prim.Native.Nat.{ℕ, suc, _+_, _-_, _%_, _^_, _≤_, _<_}
+use native.Mathlib.Numerals.{add-one}
+use native.Mathlib.Omega.{arith}
+use mathlib.Core.Path.{_≡_, refl, sym, ap, ap₂, _∙_}
+use mathlib.Core.Bool.{Bool, true, false, not, _&&_}
+use mathlib.Core.List.{List, [], _∷_, _++_}
+use mir.Val.{boolByte}
+use lib.Dec.{eqb, leb, ltb}
+use lib.ListN.{length, getD, set, take, drop, take-append-drop}
+use lib.Seq.{take-suc, take-suc-set, take-all, take-at, drop-at, length-take-le}
+use borrow.Author.Tests.{eq-eqb, ne-eqb, lt-leb, lt-ltb, le-ltb}
+use Rattle.choice.specs.Pick.{pick, pick-yes, pick-no, pick-true, pick-false}
+use Rattle.sets.specs.Set.{meet, without}
+use Rattle.plan.specs.Plan.{Plan, named, lastGiven}
+use Rattle.engine.specs.Quick.{Frame, Waiting, State, Rise, rise, framesAfter, sureAt, possAt, Opening, opening, openingFrom, judged, over, wentIf, cut}
+use Rattle.engine.specs.Quick.Snoc.{framesAfter-length}
+use Rattle.element.specs.Element.{mostOpen, Elements, elementsIn, frameAt}
+use Rattle.element.specs.Element.Laws.{frames-length}
+use Rattle.elements.specs.Elements as elements
+use Rattle.elements.specs.Elements.{Risen, pushedIn, pushedBy}
+use Rattle.elements.specs.Elements.Laws.{sure-front, possible-front}
+use Rattle.node.specs.Node.{mostHeld, Queue, queueIn}
+use Rattle.node.specs.Node.Laws.{nodes-length}
+use Rattle.nodes.specs.declared.Going.{Going}
+use Rattle.nodes.specs.Nodes.{levelOf, Moved, movedFrom, Handed, handedOut, Joined, joined}
+use Rattle.numbers.specs.Numbers.{Numbers, numbersOf}
+use Rattle.step.specs.Step.{refuseOpen, refuseClose, usedIn, goingOf, Opened, openedBy, openingIn, allGo, noPlace, overIn, After, after, refusedWith}
+use Rattle.step.specs.Step.{openWith, openBy, openTaken, onOpen, closeWith, closeOut, closeBy, closeFrom, closeTaken, onClose}
+
+-- an opening
+
+pick-and : (c a : Bool) → pick c a false ≡ (a && c)
+unfolding pick
+pick-and true true = refl
+pick-and true false = refl
+pick-and false true = refl
+pick-and false false = refl
+
+picked : (all joins b : Bool) → pick all false (pick joins b false) ≡ (not all && (joins && b))
+unfolding pick
+picked true joins b = refl
+picked false true b = refl
+picked false false b = refl
+
+module _ (P : Plan) (x depth held : ℕ) (bs ns : List ℕ) (deep : depth < mostOpen) (few : held ≤ mostHeld) where
+  abbrev E : Elements
+  E = elementsIn bs
+
+  abbrev N : Queue
+  N = queueIn ns
+
+  abbrev fs : List Frame
+  fs = take depth (E .list)
+
+  fs-length : length fs ≡ depth
+  fs-length = length-take-le depth (E .list) (omega (arith, frames-length bs))
+
+  ws-length : length (take held (N .list)) ≡ held
+  ws-length = length-take-le held (N .list) (omega (arith, nodes-length ns))
+
+  abbrev anew : ℕ
+  anew = without (meet (named P x) (P .plain)) (P .main)
+
+  abbrev risen : Rise
+  risen = rise P anew fs
+
+  abbrev frames : List Frame
+  frames = framesAfter P x fs risen
+
+  frames-after : length frames ≡ depth + 1
+  frames-after = framesAfter-length P x anew fs ∙ ap (λ n. n + 1) fs-length
+
+  -- the opening, by its parts
+  abbrev made : ℕ → Opening
+  made went =
+      record {
+        frames = frames;
+        went = went;
+        all = eqb went (length (take held (N .list))) && lastGiven (meet (named P x) (P .plain)) (sureAt P frames (length fs));
+        joins = lastGiven (named P x) (possAt P fs (length fs));
+      }
+
+  opening-is : opening P x (usedIn depth held E N) ≡ made (wentIf (ltb (length (risen .kept)) (length fs)) P frames (take held (N .list)))
+  unfolding opening openingFrom judged usedIn
+  opening-is = refl
+
+  pub opening-told :
+      (p around top went plain sure : ℕ) (joins certain all : Bool) (E₁ : Elements) → p ≡ named P x → around ≡ possAt P (E .list) depth →
+      joins ≡ lastGiven p around → _≡_ {A = Risen} (record { top = top; elements = E₁ }) (pushedIn P x depth E) →
+      went ≡ wentIf (ltb top depth) P (take (depth + 1) (E₁ .list)) (take held (N .list)) → plain ≡ P .plain → sure ≡ sureAt P (E₁ .list) depth →
+      certain ≡ lastGiven (meet p plain) sure → all ≡ allGo went held certain →
+      _≡_ {A = Opened} (record { going = record { went = went; all = all; joins = joins }; elements = E₁ }) (openingIn P x depth held E N)
+  unfolding pushedIn allGo openingIn goingOf
+  opening-told p around top went plain sure joins certain all E₁ ep ea ej er ew el es ec eall =
+      let rest : List Frame = drop (depth + 1) (E .list) in
+      let W : ℕ = wentIf (ltb (length (risen .kept)) (length fs)) P frames (take held (N .list)) in
+      let C : Bool = lastGiven (meet (named P x) (P .plain)) (sureAt P frames (length fs)) in
+      let t : top ≡ length (risen .kept) = ap (λ (y : Risen). y .top) er in
+      let one : E₁ ≡ elements.with (frames ++ rest) E = ap (λ (y : Risen). y .elements) er in
+      let took : take (depth + 1) (E₁ .list) ≡ frames =
+      ap (λ (X : Elements). take (depth + 1) (X .list)) one ∙ take-at frames rest (depth + 1) frames-after in
+      let w : went ≡ W = ew ∙ ap₂ (λ b g. wentIf b P g (take held (N .list))) (ap₂ ltb t (sym fs-length)) took in
+      let s : sure ≡ sureAt P frames (length fs) =
+      es ∙ ap (λ (X : Elements). sureAt P (X .list) depth) one ∙ sure-front P frames rest depth (omega (arith, frames-after))
+      ∙ ap (sureAt P frames) (sym fs-length) in
+      let u : around ≡ possAt P fs (length fs) =
+      ea ∙ ap (λ l. possAt P l depth) (sym (take-append-drop depth (E .list))) ∙ possible-front P fs (drop depth (E .list)) depth (omega (arith, fs-length))
+      ∙ ap (possAt P fs) (sym fs-length) in
+      let c : certain ≡ C = ec ∙ ap₂ lastGiven (ap₂ meet ep el) s in
+      let a : all ≡ (eqb W (length (take held (N .list))) && C) =
+      eall ∙ ap₂ (λ k b. pick b (eqb k held) false) w c ∙ pick-and C (eqb W held) ∙ ap (λ h. eqb W h && C) (sym ws-length) in
+      let j : joins ≡ lastGiven (named P x) (possAt P fs (length fs)) = ej ∙ ap₂ lastGiven ep u in
+      three w a j one ∙ ap (openedBy depth E) (sym opening-is)
+    where
+      three :
+          {k k′ : ℕ} {b b′ c c′ : Bool} {X X′ : Elements} → k ≡ k′ → b ≡ b′ → c ≡ c′ → X ≡ X′ →
+          _≡_ {A = Opened} (record { going = record { went = k; all = b; joins = c }; elements = X })
+          (record { going = record { went = k′; all = b′; joins = c′ }; elements = X′ })
+      three e₁ e₂ e₃ e₄ = λ i. record { going = record { went = e₁ i; all = e₂ i; joins = e₃ i }; elements = e₄ i }
+
+  -- no place is wanting
+
+  over-parts : (all joins b : Bool) → b ≡ false → (not all && (joins && b)) ≡ false
+  over-parts true joins b e = refl
+  over-parts false true b e = e
+  over-parts false false b e = refl
+
+  no-joins : (all joins b : Bool) → joins ≡ false → (not all && (joins && b)) ≡ false
+  no-joins true joins b e = refl
+  no-joins false joins b e = ap (λ j. j && b) e
+
+  pub over-not : held < mostHeld → false ≡ overIn P x depth held E N
+  unfolding overIn over usedIn
+  over-not h =
+      sym
+      (over-parts (opening P x (usedIn depth held E N) .all) (opening P x (usedIn depth held E N) .joins) _
+      (lt-leb mostHeld (length (take held (N .list)) - opening P x (usedIn depth held E N) .went) (omega (arith, ws-length))))
+
+  pub over-dead :
+      (p around : ℕ) → p ≡ named P x → around ≡ possAt P (E .list) depth → lastGiven p around ≡ false → false ≡ overIn P x depth held E N
+  unfolding overIn over usedIn
+  over-dead p around ep ea dead =
+      sym
+      (no-joins (opening P x (usedIn depth held E N) .all) (opening P x (usedIn depth held E N) .joins)
+      (leb mostHeld (length (take held (N .list)) - opening P x (usedIn depth held E N) .went))
+      (ap (λ (o : Opening). o .joins) opening-is
+      ∙ sym
+      (ap₂ lastGiven ep
+      (ea ∙ ap (λ l. possAt P l depth) (sym (take-append-drop depth (E .list))) ∙ possible-front P fs (drop depth (E .list)) depth (omega (arith, fs-length))
+      ∙ ap (possAt P fs) (sym fs-length)))
+      ∙ dead))
+
+  pub over-told :
+      (go : Going) (E₁ : Elements) (r : Bool) → _≡_ {A = Opened} (record { going = go; elements = E₁ }) (openingIn P x depth held E N) →
+      r ≡ noPlace (go .all) (go .joins) (go .went) held → r ≡ overIn P x depth held E N
+  unfolding overIn over openingIn goingOf usedIn noPlace
+  over-told go E₁ r e er =
+      let o : Opening = opening P x (usedIn depth held E N) in
+      let g : go ≡ goingOf o = ap (λ (y : Opened). y .going) e in
+      er
+      ∙ ap (λ (y : Going). noPlace (y .all) (y .joins) (y .went) held) g
+      ∙ picked (o .all) (o .joins) (leb mostHeld (held - o .went))
+      ∙ ap (λ n. not (o .all) && (o .joins && leb mostHeld (n - o .went))) (sym ws-length)
+
+-- a copy
+
+module _ (xs ys : List ℕ) (same : length ys ≡ length xs) (i : ℕ) where
+  pub copy-step : i < length xs → take i ys ≡ take i xs → take (i + 1) (set ys i (getD xs i 0)) ≡ take (i + 1) xs
+  copy-step h e =
+      ap (λ k. take k (set ys i (getD xs i 0))) (add-one i)
+      ∙ take-suc-set ys i (getD xs i 0) (omega arith)
+      ∙ ap (λ l. l ++ (getD xs i 0 ∷ [])) e
+      ∙ sym (take-suc xs i 0 h)
+      ∙ ap (λ k. take k xs) (sym (add-one i))
+
+  pub copy-done : length xs ≤ i → take i ys ≡ take i xs → ys ≡ xs
+  copy-done h e = sym (take-all i ys (omega arith)) ∙ e ∙ take-all i xs h
+
+-- an open
+
+module _ (P : Plan) (x : ℕ) (n : Numbers) (E : Elements) (N : Queue) (out : List ℕ) where
+  pub open-refused : (r : ℕ) → r ≡ refuseOpen n → (r ≡ 0 → ⊥) → refusedWith r n E N out ≡ onOpen P x n E N out
+  unfolding onOpen
+  open-refused r e f = pick-no _ _ _ _ (ne-eqb _ _ (λ z. f (e ∙ z))) (ap (λ k. refusedWith k n E N out) e)
+
+  module _ (r depth held : ℕ) (er : r ≡ refuseOpen n) (z : r ≡ 0) (ed : depth ≡ n .depth) (eh : held ≡ n .held) where
+    pub open-full : (b : Bool) → b ≡ overIn P x depth held E N → b ≡ true → refusedWith 7 n E N out ≡ onOpen P x n E N out
+    unfolding onOpen
+    open-full b e t =
+        pick-yes _ _ _ _ (eq-eqb _ _ (sym er ∙ z)) (pick-yes _ _ _ _ (sym (ap₂ (λ d h. overIn P x d h E N) ed eh) ∙ sym e ∙ t) refl)
+
+    pub open-done :
+        (b : Bool) (o : Opened) (j : Joined) (number handed given : ℕ) → b ≡ overIn P x depth held E N → b ≡ false →
+        o ≡ openingIn P x depth held E N → number ≡ n .opened + 1 → given ≡ o .going .went + boolByte (o .going .all) →
+        handed ≡ (n .handed + given) % 2 ^ 32 → j ≡ joined (o .going) held number (depth + 1) N out →
+        after 0 given (numbersOf (depth + 1) (j .held) number handed 0) (o .elements) (j .queue) (j .out) ≡ onOpen P x n E N out
+    unfolding onOpen openTaken
+    open-done b o j number handed given e f eo en eg eha ej =
+        let g : ℕ = o .going .went + boolByte (o .going .all) in
+        pick-yes _ _ _ _ (eq-eqb _ _ (sym er ∙ z))
+        (pick-no _ _ _ _ (sym (ap₂ (λ d h. overIn P x d h E N) ed eh) ∙ sym e ∙ f)
+        (ap₂ (λ d k. after 0 given (numbersOf (d + 1) (j .held) k handed 0) (o .elements) (j .queue) (j .out)) ed en
+        ∙ ap₂ (λ k h. after 0 k (numbersOf (n .depth + 1) (j .held) (n .opened + 1) h 0) (o .elements) (j .queue) (j .out)) eg
+        (eha ∙ ap (λ k. (n .handed + k) % 2 ^ 32) eg)
+        ∙ ap (openWith n o)
+        (ej ∙ ap₂ (λ d h. joined (o .going) h number (d + 1) N out) ed eh ∙ ap (λ k. joined (o .going) (n .held) k (n .depth + 1) N out) en)
+        ∙ ap (openBy n N out) (eo ∙ ap₂ (λ d h. openingIn P x d h E N) ed eh)))
+
+  pub close-refused : (r : ℕ) → r ≡ refuseClose n E x → (r ≡ 0 → ⊥) → refusedWith r n E N out ≡ onClose P x n E N out
+  unfolding onClose
+  close-refused r e f = pick-no _ _ _ _ (ne-eqb _ _ (λ z. f (e ∙ z))) (ap (λ k. refusedWith k n E N out) e)
+
+  pub close-done :
+      (r depth held from ready met went handed : ℕ) (w : Moved) (h : Handed) → r ≡ refuseClose n E x → r ≡ 0 → depth ≡ n .depth → held ≡ n .held →
+      met ≡ frameAt E (depth - 1) .met → ready ≡ possAt P (E .list) (depth - 1) →
+      from ≡ length (cut levelOf depth (take held (N .list)) .before) → w ≡ movedFrom P met ready (depth - 1) held from from N →
+      went ≡ wentIf (ltb (w .held) held) P (take (depth - 1) (E .list)) (take (w .held) (w .queue .list)) →
+      h ≡ handedOut went (w .held) (w .queue) out → handed ≡ (n .handed + went) % 2 ^ 32 →
+      after 0 went (numbersOf (depth - 1) (w .held - went) (n .opened) handed (boolByte (eqb (depth - 1) 0))) E (h .queue) (h .out)
+      ≡ onClose P x n E N out
+  unfolding onClose closeTaken
+  close-done r depth held from ready met went handed w h er z ed eh em ea ef ew ek ehn eha =
+      pick-yes _ _ _ _ (eq-eqb _ _ (sym er ∙ z))
+      (ap₂ (λ d k. after 0 went (numbersOf (d - 1) (w .held - went) (n .opened) k (boolByte (eqb (d - 1) 0))) E (h .queue) (h .out)) ed eha
+      ∙ ap (closeWith n E (w .held) went) ehn
+      ∙ ap (closeOut n E out w) (ek ∙ ap₂ (λ d k. wentIf (ltb (w .held) k) P (take (d - 1) (E .list)) (take (w .held) (w .queue .list))) ed eh)
+      ∙ ap (closeBy P n E out)
+      (ew ∙ ap₂ (λ a b. movedFrom P a b (depth - 1) held from from N) em ea
+      ∙ ap₂ (λ d k. movedFrom P (frameAt E (d - 1) .met) (possAt P (E .list) (d - 1)) (d - 1) k from from N) ed eh)
+      ∙ ap (closeFrom P n E N out) (ef ∙ ap₂ (λ d k. length (cut levelOf d (take k (N .list)) .before)) ed eh))

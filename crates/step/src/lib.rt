@@ -1,0 +1,228 @@
+// One event on lent bytes: the refusals in the order of their numbers, one dispatch on the event's kind, an open and a close. Everything is lent: what is
+// kept of the query (crate plan_bytes), the session's numbers (numbers), the open elements (elements), the waiting nodes (nodes) and the output buffer.
+ghost use mathlib.Core.Path.{_≡_};
+ghost use Prim.Native.Nat.{_≤_, _<_};
+ghost use lib.ListN.{length};
+ghost use Rattle.meaning.specs.Record.{eventOf};
+ghost use Rattle.records.specs.Read.{shown};
+ghost use Rattle.engine.specs.Quick.{over, opening};
+ghost use Rattle.plan.specs.Plan.{lastGiven, named};
+ghost use Rattle.element.specs.Element.{mostOpen, elementsRoom, elementsIn};
+ghost use Rattle.node.specs.Node.{mostHeld, nodesRoom, queueIn};
+ghost use Rattle.plan_bytes.specs.Kept.{planRoom, keptIn};
+ghost use Rattle.numbers.specs.Numbers.{numbersRoom, numbersIn};
+ghost use Rattle.step.specs.Step.{outputNeeded, OpenFits, CloseFits, refuseOpen, refuseClose, openingIn, allGo, noPlace, overIn, after, onOpen, onClose, step};
+use nodes::Going;
+use records::Event;
+
+// What an event comes to: its refusal, or 0, and how many nodes were handed out.
+pub struct Stepped {
+    pub refusal: u8,
+    pub given: u32,
+}
+
+fn refused(refusal: u8) -> Stepped
+    ensures { λ r. ⌜ r ≡ record { refusal = refusal; given = 0 } ⌝ }
+{
+    Stepped {
+        refusal: refusal,
+        given: 0,
+    }
+}
+
+// The lowest refusal that the numbers decide for an open, or 0; also one for numbers past every limit, to which no calls lead.
+fn refuse_open(numbers: &[u8]) -> u8
+    requires { ⌜ length (now numbers) ≡ numbersRoom ⌝ }
+    ensures { λ r. ⌜ (r ≡ refuseOpen (numbersIn (now (numbers .entry)))) × (r ≡ 0 → OpenFits (numbersIn (now (numbers .entry)))) ⌝ }
+{
+    if numbers::get(numbers, numbers::ENDED) != 0 {
+        return limits::AFTER_END;
+    }
+    if limits::DEPTH <= numbers::get(numbers, numbers::DEPTH) as usize {
+        return limits::TOO_DEEP;
+    }
+    if limits::NODES <= numbers::get(numbers, numbers::OPENED) {
+        return limits::TOO_MANY_NODES;
+    }
+    if limits::HELD < numbers::get(numbers, numbers::HELD) as usize {
+        return limits::TOO_MANY_HELD;
+    }
+    0
+}
+
+// The same for a close of `x`.
+fn refuse_close(numbers: &[u8], elements: &[u8], x: u32) -> u8
+    requires { ⌜ (length (now numbers) ≡ numbersRoom) × (length (now elements) ≡ elementsRoom) ⌝ }
+    ensures { λ r. ⌜ (r ≡ refuseClose (numbersIn (now (numbers .entry))) (elementsIn (now (elements .entry))) x) × (r ≡ 0 → CloseFits (numbersIn (now (numbers .entry)))) ⌝ }
+{
+    if numbers::get(numbers, numbers::ENDED) != 0 {
+        return limits::AFTER_END;
+    }
+    let depth = numbers::get(numbers, numbers::DEPTH) as usize;
+    if depth == 0 {
+        return limits::WRONG_CLOSE;
+    }
+    if limits::DEPTH < depth {
+        return limits::WRONG_CLOSE;
+    }
+    if element::get(elements, depth - 1, element::NAME) != x {
+        return limits::WRONG_CLOSE;
+    }
+    if limits::HELD < numbers::get(numbers, numbers::HELD) as usize {
+        return limits::TOO_MANY_HELD;
+    }
+    0
+}
+
+// Whether all that wait go, and the new node with them.
+fn all_go(went: usize, held: usize, certain: bool) -> bool
+    ensures { λ r. ⌜ r ≡ allGo went held certain ⌝ }
+{
+    if certain {
+        return went == held;
+    }
+    false
+}
+
+// An element named `x` opens under `depth` others: which nodes go.
+fn opening(kept: &[u8], x: u32, depth: usize, held: usize, elements: &mut [u8], nodes: &[u8]) -> Going
+    requires { ⌜ (length (now kept) ≡ planRoom) × ((length (now elements) ≡ elementsRoom) × (length (now nodes) ≡ nodesRoom)) ⌝ }
+    requires { ⌜ (depth < mostOpen) × (held ≤ mostHeld) ⌝ }
+    ensures { λ r. ⌜ record { going = r; elements = elementsIn (now (elements .exit)) } ≡ openingIn (keptIn (now (kept .entry))) x depth held (elementsIn (now (elements .entry))) (queueIn (now (nodes .entry))) ⌝ }
+    ensures { λ r. ⌜ r .went ≤ held ⌝ }
+{
+    let pass = elements::named(kept, x);
+    let joins = elements::last_given(pass, elements::possible_at(kept, &*elements, depth));
+    let top = elements::push(kept, elements, x, pass, depth);
+    let went = nodes::front_if(top < depth, kept, &*elements, depth + 1, nodes, held);
+    let met = pass & plan_bytes::steps(kept, plan_bytes::PLAIN);
+    let certain = elements::last_given(met, elements::sure_at(kept, &*elements, depth));
+    let all = all_go(went, held, certain);
+    Going {
+        went: went,
+        all: all,
+        joins: joins,
+    }
+}
+
+fn copy(from: &[u8], to: &mut [u8])
+    requires { ⌜ length (now from) ≡ length (now to) ⌝ }
+    ensures { λ r. ⌜ now (to .exit) ≡ now (from .entry) ⌝ }
+{
+    let n = from.len();
+    let mut i: usize = 0;
+    while i < n {
+        to[i] = from[i];
+        i += 1;
+    }
+}
+
+// Whether the new node neither goes nor is ruled out, and all places are taken.
+fn no_place(go: Going, held: usize) -> bool
+    requires { ⌜ go .went ≤ held ⌝ }
+    ensures { λ r. ⌜ r ≡ noPlace (go .all) (go .joins) (go .went) held ⌝ }
+{
+    if go.all {
+        return false;
+    }
+    if go.joins {
+        return limits::HELD <= held - go.went;
+    }
+    false
+}
+
+// Whether an open would find no place, told on a copy of the open elements, so that a refused open leaves them as they were.
+fn brim(kept: &[u8], x: u32, depth: usize, held: usize, elements: &[u8], nodes: &[u8]) -> bool
+    requires { ⌜ (length (now kept) ≡ planRoom) × ((length (now elements) ≡ elementsRoom) × (length (now nodes) ≡ nodesRoom)) ⌝ }
+    requires { ⌜ (depth < mostOpen) × (held ≤ mostHeld) ⌝ }
+    ensures { λ r. ⌜ r ≡ overIn (keptIn (now (kept .entry))) x depth held (elementsIn (now (elements .entry))) (queueIn (now (nodes .entry))) ⌝ }
+{
+    let pass = elements::named(kept, x);
+    if !elements::last_given(pass, elements::possible_at(kept, elements, depth)) {
+        return false;
+    }
+    let mut trial = [0u8; 16384];
+    copy(elements, &mut trial);
+    no_place(opening(kept, x, depth, held, &mut trial, nodes), held)
+}
+
+// The same: below the brim no open is refused for want of a place.
+fn full(kept: &[u8], x: u32, depth: usize, held: usize, elements: &[u8], nodes: &[u8]) -> bool
+    requires { ⌜ (length (now kept) ≡ planRoom) × ((length (now elements) ≡ elementsRoom) × (length (now nodes) ≡ nodesRoom)) ⌝ }
+    requires { ⌜ (depth < mostOpen) × (held ≤ mostHeld) ⌝ }
+    ensures { λ r. ⌜ r ≡ overIn (keptIn (now (kept .entry))) x depth held (elementsIn (now (elements .entry))) (queueIn (now (nodes .entry))) ⌝ }
+{
+    if held < limits::HELD {
+        return false;
+    }
+    brim(kept, x, depth, held, elements, nodes)
+}
+
+// An element named `x` opens.
+fn open(kept: &[u8], x: u32, numbers: &mut [u8], elements: &mut [u8], nodes: &mut [u8], out: &mut [u8]) -> Stepped
+    requires { ⌜ (length (now kept) ≡ planRoom) × (length (now numbers) ≡ numbersRoom) ⌝ }
+    requires { ⌜ (length (now elements) ≡ elementsRoom) × ((length (now nodes) ≡ nodesRoom) × (outputNeeded ≤ length (now out))) ⌝ }
+    ensures { λ r. ⌜ after (r .refusal) (r .given) (numbersIn (now (numbers .exit))) (elementsIn (now (elements .exit))) (queueIn (now (nodes .exit))) (now (out .exit)) ≡ onOpen (keptIn (now (kept .entry))) x (numbersIn (now (numbers .entry))) (elementsIn (now (elements .entry))) (queueIn (now (nodes .entry))) (now (out .entry)) ⌝ }
+{
+    let refusal = refuse_open(&*numbers);
+    if refusal != 0 {
+        return refused(refusal);
+    }
+    let depth = numbers::get(&*numbers, numbers::DEPTH) as usize;
+    let held = numbers::get(&*numbers, numbers::HELD) as usize;
+    if full(kept, x, depth, held, &*elements, &*nodes) {
+        return refused(limits::TOO_MANY_HELD);
+    }
+    let go = opening(kept, x, depth, held, elements, &*nodes);
+    let number = numbers::get(&*numbers, numbers::OPENED) + 1;
+    let given = go.went as u32 + go.all as u32;
+    let handed = std::num::wrapping_add_u32(numbers::get(&*numbers, numbers::HANDED), given);
+    let rest = nodes::join(go, held, number, (depth + 1) as u32, nodes, out);
+    numbers::write(numbers, (depth + 1) as u32, rest as u32, number, handed, 0);
+    Stepped {
+        refusal: 0,
+        given: given,
+    }
+}
+
+// The innermost element closes, named `x`.
+fn close(kept: &[u8], x: u32, numbers: &mut [u8], elements: &[u8], nodes: &mut [u8], out: &mut [u8]) -> Stepped
+    requires { ⌜ (length (now kept) ≡ planRoom) × (length (now numbers) ≡ numbersRoom) ⌝ }
+    requires { ⌜ (length (now elements) ≡ elementsRoom) × ((length (now nodes) ≡ nodesRoom) × (outputNeeded ≤ length (now out))) ⌝ }
+    ensures { λ r. ⌜ after (r .refusal) (r .given) (numbersIn (now (numbers .exit))) (elementsIn (now (elements .entry))) (queueIn (now (nodes .exit))) (now (out .exit)) ≡ onClose (keptIn (now (kept .entry))) x (numbersIn (now (numbers .entry))) (elementsIn (now (elements .entry))) (queueIn (now (nodes .entry))) (now (out .entry)) ⌝ }
+{
+    let refusal = refuse_close(&*numbers, elements, x);
+    if refusal != 0 {
+        return refused(refusal);
+    }
+    let depth = numbers::get(&*numbers, numbers::DEPTH) as usize;
+    let held = numbers::get(&*numbers, numbers::HELD) as usize;
+    let opened = numbers::get(&*numbers, numbers::OPENED);
+    let above = depth - 1;
+    let met = element::get(elements, above, element::MET);
+    let ready = elements::possible_at(kept, elements, above);
+    let from = nodes::suffix(&*nodes, held, depth as u32);
+    let left = nodes::move_up(kept, met, ready, above as u32, nodes, from, held);
+    let went = nodes::front_if(left < held, kept, elements, above, &*nodes, left);
+    nodes::hand_out(went, left, nodes, out);
+    let handed = std::num::wrapping_add_u32(numbers::get(&*numbers, numbers::HANDED), went as u32);
+    numbers::write(numbers, above as u32, (left - went) as u32, opened, handed, (above == 0) as u32);
+    Stepped {
+        refusal: 0,
+        given: went as u32,
+    }
+}
+
+// One event.
+pub fn step(kept: &[u8], bytes: &[u8], numbers: &mut [u8], elements: &mut [u8], nodes: &mut [u8], out: &mut [u8]) -> Stepped
+    requires { ⌜ (length (now kept) ≡ planRoom) × (length (now numbers) ≡ numbersRoom) ⌝ }
+    requires { ⌜ (length (now elements) ≡ elementsRoom) × ((length (now nodes) ≡ nodesRoom) × (outputNeeded ≤ length (now out))) ⌝ }
+    ensures { λ r. ⌜ after (r .refusal) (r .given) (numbersIn (now (numbers .exit))) (elementsIn (now (elements .exit))) (queueIn (now (nodes .exit))) (now (out .exit)) ≡ step (keptIn (now (kept .entry))) (shown (eventOf (now (bytes .entry)))) (numbersIn (now (numbers .entry))) (elementsIn (now (elements .entry))) (queueIn (now (nodes .entry))) (now (out .entry)) ⌝ }
+{
+    let event = records::read_event(bytes);
+    match event {
+        Event::Open(x) => open(kept, x as u32, numbers, elements, nodes, out),
+        Event::Close(x) => close(kept, x as u32, numbers, &*elements, nodes, out),
+        Event::Bad => refused(limits::BAD_RECORD),
+    }
+}
