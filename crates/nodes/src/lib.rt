@@ -176,6 +176,7 @@ pub fn join(go: Going, held: usize, number: u32, level: u32, nodes: &mut [u8], o
     requires { ⌜ (length (now nodes) ≡ nodesRoom) × ((go .went ≤ held) × ((held ≤ mostHeld) × (4 * held + 4 ≤ length (now out)))) ⌝ }
     requires { ⌜ (go .all ≡ false → go .joins ≡ true → held < mostHeld + go .went) ⌝ }
     ensures { λ r. ⌜ record { held = r; queue = queueIn (now (nodes .exit)); out = now (out .exit) } ≡ joined go held number level (queueIn (now (nodes .entry))) (now (out .entry)) ⌝ }
+    ensures { λ r. ⌜ r ≤ mostHeld ⌝ }
 {
     let went = go.went;
     if go.all {

@@ -11,7 +11,9 @@
 --   overIn P x depth held E N      an opening of x leaves more nodes waiting than there are records
 --   After, after              what an event comes to: its refusal, or 0, how many nodes were handed out, and all that was lent
 --   refusedWith r n E N out   a refusal: all as it was
---   onOpen, onClose           an open and a close of x
+--   openNumbers, closeNumbers n held given     the numbers after an open and after a close that handed out `given` nodes and after which `held` wait
+--   movedOut P depth held E N      the nodes that wait at the innermost of `depth` elements move up out of it or leave
+--   openTaken, closeTaken     an open and a close that nothing refuses;  onOpen, onClose: any open and close of x
 --   step P e n E N out        the event e
 --
 -- Numbers that no calls lead to may be past every limit: an open or a close is then refused too, so that no record is left.
@@ -111,10 +113,13 @@ refusedWith r n E N out = after r 0 n E N out
 
 -- an open, by which nodes go and what becomes of them
 
+unfoldable pub openNumbers : Numbers → ℕ → ℕ → Numbers
+openNumbers n held given = numbersOf (n .depth + 1) held (n .opened + 1) ((n .handed + given) % 2 ^ 32) 0
+
 abbrev pub openWith : Numbers → Opened → Joined → After
 openWith n o j =
     let given : ℕ = o .going .went + boolByte (o .going .all) in
-    after 0 given (numbersOf (n .depth + 1) (j .held) (n .opened + 1) ((n .handed + given) % 2 ^ 32) 0) (o .elements) (j .queue) (j .out)
+    after 0 given (openNumbers n (j .held) given) (o .elements) (j .queue) (j .out)
 
 abbrev pub openBy : Numbers → Queue → List ℕ → Opened → After
 openBy n N out o = openWith n o (joined (o .going) (n .held) (n .opened + 1) (n .depth + 1) N out)
@@ -130,10 +135,19 @@ onOpen P x n E N out =
 
 -- a close, by the nodes that still wait and how many of them go
 
+unfoldable pub closeNumbers : Numbers → ℕ → ℕ → Numbers
+closeNumbers n held given =
+    numbersOf (n .depth - 1) held (n .opened) ((n .handed + given) % 2 ^ 32) (boolByte (eqb (n .depth - 1) 0))
+
+-- where the nodes of the innermost element begin
+abbrev pub movedOutFrom : Plan → ℕ → ℕ → Elements → Queue → ℕ → Moved
+movedOutFrom P depth held E N from = movedFrom P (frameAt E (depth - 1) .met) (possAt P (E .list) (depth - 1)) (depth - 1) held from from N
+
+unfoldable pub movedOut : Plan → ℕ → ℕ → Elements → Queue → Moved
+movedOut P depth held E N = movedOutFrom P depth held E N (length (cut levelOf depth (take held (N .list)) .before))
+
 abbrev pub closeWith : Numbers → Elements → ℕ → ℕ → Handed → After
-closeWith n E left went h =
-    after 0 went
-    (numbersOf (n .depth - 1) (left - went) (n .opened) ((n .handed + went) % 2 ^ 32) (boolByte (eqb (n .depth - 1) 0))) E (h .queue) (h .out)
+closeWith n E left went h = after 0 went (closeNumbers n (left - went) went) E (h .queue) (h .out)
 
 abbrev pub closeOut : Numbers → Elements → List ℕ → Moved → ℕ → After
 closeOut n E out w went = closeWith n E (w .held) went (handedOut went (w .held) (w .queue) out)
@@ -142,14 +156,8 @@ abbrev pub closeBy : Plan → Numbers → Elements → List ℕ → Moved → Af
 closeBy P n E out w =
     closeOut n E out w (wentIf (ltb (w .held) (n .held)) P (take (n .depth - 1) (E .list)) (take (w .held) (w .queue .list)))
 
--- where the nodes of the innermost element begin
-abbrev pub closeFrom : Plan → Numbers → Elements → Queue → List ℕ → ℕ → After
-closeFrom P n E N out from =
-    closeBy P n E out
-    (movedFrom P (frameAt E (n .depth - 1) .met) (possAt P (E .list) (n .depth - 1)) (n .depth - 1) (n .held) from from N)
-
 unfoldable pub closeTaken : Plan → Numbers → Elements → Queue → List ℕ → After
-closeTaken P n E N out = closeFrom P n E N out (length (cut levelOf (n .depth) (take (n .held) (N .list)) .before))
+closeTaken P n E N out = closeBy P n E out (movedOut P (n .depth) (n .held) E N)
 
 unfoldable pub onClose : Plan → ℕ → Numbers → Elements → Queue → List ℕ → After
 onClose P x n E N out =

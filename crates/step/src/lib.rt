@@ -11,7 +11,7 @@ ghost use Rattle.element.specs.Element.{mostOpen, elementsRoom, elementsIn};
 ghost use Rattle.node.specs.Node.{mostHeld, nodesRoom, queueIn};
 ghost use Rattle.plan_bytes.specs.Kept.{planRoom, keptIn};
 ghost use Rattle.numbers.specs.Numbers.{numbersRoom, numbersIn};
-ghost use Rattle.step.specs.Step.{outputNeeded, OpenFits, CloseFits, refuseOpen, refuseClose, openingIn, allGo, noPlace, overIn, after, onOpen, onClose, step};
+ghost use Rattle.step.specs.Step.{outputNeeded, OpenFits, CloseFits, refuseOpen, refuseClose, openingIn, allGo, noPlace, overIn, openNumbers, closeNumbers, movedOut, after, onOpen, onClose, step};
 use nodes::Going;
 use records::Event;
 
@@ -158,6 +158,43 @@ fn full(kept: &[u8], x: u32, depth: usize, held: usize, elements: &[u8], nodes: 
     brim(kept, x, depth, held, elements, nodes)
 }
 
+// The numbers after an open that handed out `given` nodes and after which `held` wait.
+fn count_open(numbers: &mut [u8], held: u32, given: u32)
+    requires { ⌜ (length (now numbers) ≡ numbersRoom) × OpenFits (numbersIn (now numbers)) ⌝ }
+    ensures { λ r. ⌜ numbersIn (now (numbers .exit)) ≡ openNumbers (numbersIn (now (numbers .entry))) held given ⌝ }
+{
+    let depth = numbers::get(&*numbers, numbers::DEPTH);
+    let opened = numbers::get(&*numbers, numbers::OPENED);
+    let handed = numbers::get(&*numbers, numbers::HANDED);
+    numbers::write(numbers, depth + 1, held, opened + 1, std::num::wrapping_add_u32(handed, given), 0);
+}
+
+// The same after a close.
+fn count_close(numbers: &mut [u8], held: u32, given: u32)
+    requires { ⌜ (length (now numbers) ≡ numbersRoom) × CloseFits (numbersIn (now numbers)) ⌝ }
+    ensures { λ r. ⌜ numbersIn (now (numbers .exit)) ≡ closeNumbers (numbersIn (now (numbers .entry))) held given ⌝ }
+{
+    let above = numbers::get(&*numbers, numbers::DEPTH) - 1;
+    let opened = numbers::get(&*numbers, numbers::OPENED);
+    let handed = numbers::get(&*numbers, numbers::HANDED);
+    let ended = above == 0;
+    numbers::write(numbers, above, held, opened, std::num::wrapping_add_u32(handed, given), ended as u32);
+}
+
+// The nodes that wait at the innermost of `depth` elements move up out of it or leave. Returns how many nodes wait.
+fn move_out(kept: &[u8], depth: usize, held: usize, elements: &[u8], nodes: &mut [u8]) -> usize
+    requires { ⌜ (length (now kept) ≡ planRoom) × ((length (now elements) ≡ elementsRoom) × (length (now nodes) ≡ nodesRoom)) ⌝ }
+    requires { ⌜ (0 < depth) × ((depth ≤ mostOpen) × (held ≤ mostHeld)) ⌝ }
+    ensures { λ r. ⌜ record { held = r; queue = queueIn (now (nodes .exit)) } ≡ movedOut (keptIn (now (kept .entry))) depth held (elementsIn (now (elements .entry))) (queueIn (now (nodes .entry))) ⌝ }
+    ensures { λ r. ⌜ r ≤ held ⌝ }
+{
+    let above = depth - 1;
+    let met = element::get(elements, above, element::MET);
+    let ready = elements::possible_at(kept, elements, above);
+    let from = nodes::suffix(&*nodes, held, depth as u32);
+    nodes::move_up(kept, met, ready, above as u32, nodes, from, held)
+}
+
 // An element named `x` opens.
 fn open(kept: &[u8], x: u32, numbers: &mut [u8], elements: &mut [u8], nodes: &mut [u8], out: &mut [u8]) -> Stepped
     requires { ⌜ (length (now kept) ≡ planRoom) × (length (now numbers) ≡ numbersRoom) ⌝ }
@@ -175,10 +212,9 @@ fn open(kept: &[u8], x: u32, numbers: &mut [u8], elements: &mut [u8], nodes: &mu
     }
     let go = opening(kept, x, depth, held, elements, &*nodes);
     let number = numbers::get(&*numbers, numbers::OPENED) + 1;
-    let given = go.went as u32 + go.all as u32;
-    let handed = std::num::wrapping_add_u32(numbers::get(&*numbers, numbers::HANDED), given);
     let rest = nodes::join(go, held, number, (depth + 1) as u32, nodes, out);
-    numbers::write(numbers, (depth + 1) as u32, rest as u32, number, handed, 0);
+    let given = go.went as u32 + go.all as u32;
+    count_open(numbers, rest as u32, given);
     Stepped {
         refusal: 0,
         given: given,
@@ -197,16 +233,10 @@ fn close(kept: &[u8], x: u32, numbers: &mut [u8], elements: &[u8], nodes: &mut [
     }
     let depth = numbers::get(&*numbers, numbers::DEPTH) as usize;
     let held = numbers::get(&*numbers, numbers::HELD) as usize;
-    let opened = numbers::get(&*numbers, numbers::OPENED);
-    let above = depth - 1;
-    let met = element::get(elements, above, element::MET);
-    let ready = elements::possible_at(kept, elements, above);
-    let from = nodes::suffix(&*nodes, held, depth as u32);
-    let left = nodes::move_up(kept, met, ready, above as u32, nodes, from, held);
-    let went = nodes::front_if(left < held, kept, elements, above, &*nodes, left);
+    let left = move_out(kept, depth, held, elements, nodes);
+    let went = nodes::front_if(left < held, kept, elements, depth - 1, &*nodes, left);
     nodes::hand_out(went, left, nodes, out);
-    let handed = std::num::wrapping_add_u32(numbers::get(&*numbers, numbers::HANDED), went as u32);
-    numbers::write(numbers, above as u32, (left - went) as u32, opened, handed, (above == 0) as u32);
+    count_close(numbers, (left - went) as u32, went as u32);
     Stepped {
         refusal: 0,
         given: went as u32,

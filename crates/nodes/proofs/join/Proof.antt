@@ -25,7 +25,7 @@ returns c = let put = c .before .before in
     let wrote = put .before .before .before .before in
     let chosen = wrote .before .before .before in
     let start = chosen .before .before .before in
-    join-all _ _ _ _ _ _ _ _ (chosen .if1 .taken) (omega arith) (omega arith) (wrote .write-front .ensures) (put .put-node .ensures)
+    (join-all _ _ _ _ _ _ _ _ (chosen .if1 .taken) (omega arith) (omega arith) (wrote .write-front .ensures) (put .put-node .ensures), omega arith)
 
 hand-out-requires : tie.Need-hand-out-requires
 hand-out-requires c κs = search needs
@@ -52,7 +52,9 @@ returns-2 : tie.Need-returns-2
 returns-2 c = let wrote = c .before .before in
     let joins = wrote .before .before in
     let handed = joins .before .before .before .before .before in
-    join-alive _ _ _ _ _ _ _ (handed .before .before .before .if1 .left) (handed .hand-out .ensures) _ (joins .if2 .taken) (wrote .write .ensures)
+    let other = handed .before .before .before in
+    let free = other .before .before .before .pre .1 (other .if1 .left) (joins .if2 .taken) in
+    (join-alive _ _ _ _ _ _ _ (other .if1 .left) (handed .hand-out .ensures) _ (joins .if2 .taken) (wrote .write .ensures), omega (arith, free))
 
 same-length-5 : tie.Need-same-length-5
 same-length-5 c = search needs
@@ -62,7 +64,7 @@ same-length-6 c = search needs
 
 returns-3 : tie.Need-returns-3
 returns-3 c = let handed = c .before .before .before .before .before in
-    join-dead _ _ _ _ _ _ _ (handed .before .before .before .if1 .left) (handed .hand-out .ensures) (c .if2 .left)
+    (join-dead _ _ _ _ _ _ _ (handed .before .before .before .if1 .left) (handed .hand-out .ensures) (c .if2 .left), omega arith)
 
 pub join-spec : {M : Type 1} → statement M
 join-spec =

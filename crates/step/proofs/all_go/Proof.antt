@@ -1,11 +1,17 @@
+-- The two cases. Assumes nothing.
+use mathlib.Core.Path.{refl}
+use Rattle.choice.specs.Pick.{pick-yes, pick-no}
+use Rattle.step.specs.Step.{allGo}
 use Rattle.step.proofs.all_go.Statement.{statement}
 use Rattle.step.proofs.all_go.Tie as tie
 
 returns : tie.Need-returns
-returns c = ?
+unfolding allGo
+returns c = pick-yes _ _ _ _ (c .if1 .taken) refl
 
 returns-2 : tie.Need-returns-2
-returns-2 c = ?
+unfolding allGo
+returns-2 c = pick-no _ _ _ _ (c .if1 .left) refl
 
 pub all-go-spec : {M : Type 1} → statement M
 all-go-spec = tie.close (tie.spec returns returns-2)

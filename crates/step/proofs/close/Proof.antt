@@ -1,4 +1,12 @@
+-- What each call answered, put together (Step.Laws); what the numbers keep makes each call fit. Assumes nothing.
 use borrow.Author.Needs.{needs}
+use native.Mathlib.Omega.{arith}
+use mathlib.Core.Path.{_∙_}
+use Rattle.numbers.specs.Numbers.{numbersIn}
+use Rattle.element.specs.Element.{elementsIn}
+use Rattle.node.specs.Node.{queueIn}
+use Rattle.plan_bytes.specs.Kept.{keptIn}
+use Rattle.step.specs.Step.Laws.{depth-is, held-is, output-is, refused-as, close-refused, close-done}
 use Rattle.step.proofs.close.Statement.{statement}
 use Rattle.step.proofs.close.Tie as tie
 
@@ -12,7 +20,10 @@ same-length : tie.Need-same-length
 same-length c = search needs
 
 returns : tie.Need-returns
-returns c = ?
+returns c = let args = c .before .before .before .before .before .before .before .before .before .args in
+    refused-as _ _ _ _ _ _ (c .refused .ensures)
+    ∙ close-refused (keptIn (args .kept .now)) (args .x) _ (elementsIn (args .elements .now)) (queueIn (args .nodes .now)) _ _
+    (c .before .before .refuse-close .ensures .0) (c .before .if1 .taken)
 
 get-requires : tie.Need-get-requires
 get-requires c κs = search needs
@@ -26,62 +37,38 @@ get-requires-2 c κs = search needs
 cast-held : tie.Need-cast-held
 cast-held c = search needs
 
-get-requires-3 : tie.Need-get-requires-3
-get-requires-3 c κs = search needs
+move-out-requires : tie.Need-move-out-requires
+move-out-requires c κs = let fits = c .before .before .before .before .before .before .refuse-close .ensures .1 (c .before .before .before .before .before .if1 .left) in
+    (search needs, (omega (arith, c .before .before .before .get .ensures, fits .some), (omega (arith, c .before .before .before .get .ensures, fits .deep), omega (arith, c .before .get2 .ensures, fits .held))))
 
-sub-above : tie.Need-sub-above
-sub-above c = search needs
-
-get-requires-4 : tie.Need-get-requires-4
-get-requires-4 c κs = search needs
-
-possible-at-requires : tie.Need-possible-at-requires
-possible-at-requires c κs = search needs
-
-cast-suffix : tie.Need-cast-suffix
-cast-suffix c = search needs
-
-suffix-requires : tie.Need-suffix-requires
-suffix-requires c κs = search needs
-
-cast-move-up : tie.Need-cast-move-up
-cast-move-up c = search needs
-
-move-up-requires : tie.Need-move-up-requires
-move-up-requires c κs = search needs
+sub-front-if : tie.Need-sub-front-if
+sub-front-if c = let fits = c .before .before .before .before .before .before .before .before .before .refuse-close .ensures .1 (c .before .before .before .before .before .before .before .before .if1 .left) in omega (arith, c .before .before .before .before .before .before .get .ensures, fits .some)
 
 front-if-requires : tie.Need-front-if-requires
-front-if-requires c κs = search needs
+front-if-requires c κs = let fits = c .before .before .before .before .before .before .before .before .before .before .refuse-close .ensures .1 (c .before .before .before .before .before .before .before .before .before .if1 .left) in
+    ((search needs, (search needs, omega (arith, c .before .before .before .before .before .before .before .get .ensures, fits .deep))), (search needs, omega (arith, c .before .before .before .move-out .ensures .1, c .before .before .before .before .before .get2 .ensures, fits .held)))
 
 hand-out-requires : tie.Need-hand-out-requires
-hand-out-requires c κs = search needs
+hand-out-requires c κs = let fits = c .before .before .before .before .before .before .before .before .before .before .before .before .before .refuse-close .ensures .1 (c .before .before .before .before .before .before .before .before .before .before .before .before .if1 .left) in
+    (search needs, (c .before .before .front-if .ensures .1, (omega (arith, c .before .before .before .before .before .before .move-out .ensures .1, c .before .before .before .before .before .before .before .before .get2 .ensures, fits .held),
+      omega (arith, output-is, c .before .before .before .before .before .before .move-out .ensures .1, c .before .before .before .before .before .before .before .before .get2 .ensures, fits .held, c .before .before .before .before .before .before .before .before .before .before .before .before .before .before .before .before .before .before .before .before .pre .1 .1 .1))))
 
-get-requires-5 : tie.Need-get-requires-5
-get-requires-5 c κs = search needs
+sub-count-close : tie.Need-sub-count-close
+sub-count-close c = c .before .before .before .before .before .before .before .before .front-if .ensures .1
 
-cast-wrapping-add-u32 : tie.Need-cast-wrapping-add-u32
-cast-wrapping-add-u32 c = search needs
+cast-count-close : tie.Need-cast-count-close
+cast-count-close c = let fits = c .before .before .before .before .before .before .before .before .before .before .before .before .before .before .before .before .before .before .before .refuse-close .ensures .1 (c .before .before .before .before .before .before .before .before .before .before .before .before .before .before .before .before .before .before .if1 .left) in omega (arith, held-is, c .before .before .before .before .before .before .before .before .before .before .before .before .move-out .ensures .1, c .before .before .before .before .before .before .before .before .before .before .before .before .before .before .get2 .ensures, fits .held)
 
-wrapping-add-u32-requires : tie.Need-wrapping-add-u32-requires
-wrapping-add-u32-requires c κs = search needs
+cast-count-close-2 : tie.Need-cast-count-close-2
+cast-count-close-2 c = let fits = c .before .before .before .before .before .before .before .before .before .before .before .before .before .before .before .before .before .before .before .refuse-close .ensures .1 (c .before .before .before .before .before .before .before .before .before .before .before .before .before .before .before .before .before .before .if1 .left) in
+    omega (arith, held-is, c .before .before .before .before .before .before .before .before .front-if .ensures .1, c .before .before .before .before .before .before .before .before .before .before .before .before .move-out .ensures .1, c .before .before .before .before .before .before .before .before .before .before .before .before .before .before .get2 .ensures, fits .held)
 
-cast-write : tie.Need-cast-write
-cast-write c = search needs
+count-close-requires : tie.Need-count-close-requires
+count-close-requires c κs = (c .before .before .before .before .before .before .before .before .before .before .before .before .before .before .before .before .before .before .before .before .before .before .before .before .before .before .pre .0 .1, c .before .before .before .before .before .before .before .before .before .before .before .before .before .before .before .before .before .before .before .refuse-close .ensures .1 (c .before .before .before .before .before .before .before .before .before .before .before .before .before .before .before .before .before .before .if1 .left))
 
-sub-write : tie.Need-sub-write
-sub-write c = search needs
-
-cast-write-2 : tie.Need-cast-write-2
-cast-write-2 c = search needs
-
-cast-write-3 : tie.Need-cast-write-3
-cast-write-3 c = search needs
-
-write-requires : tie.Need-write-requires
-write-requires c κs = search needs
-
-cast-t41 : tie.Need-cast-t41
-cast-t41 c = search needs
+cast-t15 : tie.Need-cast-t15
+cast-t15 c = let fits = c .before .before .before .before .before .before .before .before .before .before .before .before .before .before .before .before .before .before .before .before .before .before .refuse-close .ensures .1 (c .before .before .before .before .before .before .before .before .before .before .before .before .before .before .before .before .before .before .before .before .before .if1 .left) in
+    omega (arith, held-is, c .before .before .before .before .before .before .before .before .before .before .before .front-if .ensures .1, c .before .before .before .before .before .before .before .before .before .before .before .before .before .before .before .move-out .ensures .1, c .before .before .before .before .before .before .before .before .before .before .before .before .before .before .before .before .before .get2 .ensures, fits .held)
 
 same-length-2 : tie.Need-same-length-2
 same-length-2 c = search needs
@@ -93,7 +80,10 @@ same-length-4 : tie.Need-same-length-4
 same-length-4 c = search needs
 
 returns-2 : tie.Need-returns-2
-returns-2 c = ?
+returns-2 c = let args = c .before .before .before .before .before .before .before .before .before .before .before .before .before .before .before .before .before .before .before .before .before .before .before .before .before .before .before .before .before .args in
+    close-done (keptIn (args .kept .now)) (args .x) (numbersIn (args .numbers .now)) (elementsIn (args .elements .now)) (queueIn (args .nodes .now)) (args .out .now)
+    _ _ _ _ _ _ _ (c .before .before .before .before .before .before .before .before .before .before .before .before .before .before .before .before .before .before .before .before .before .before .refuse-close .ensures .0) (c .before .before .before .before .before .before .before .before .before .before .before .before .before .before .before .before .before .before .before .before .before .if1 .left) (c .before .before .before .before .before .before .before .before .before .before .before .before .before .before .before .before .before .before .before .get .ensures) (c .before .before .before .before .before .before .before .before .before .before .before .before .before .before .before .before .before .get2 .ensures) (c .before .before .before .before .before .before .before .before .before .before .before .before .before .before .before .move-out .ensures .0)
+    (c .before .before .before .before .before .before .before .before .before .before .before .front-if .ensures .0) (c .before .before .before .before .before .before .before .before .hand-out .ensures) (c .before .before .count-close .ensures)
 
 pub close-spec : {M : Type 1} → statement M
 close-spec =
@@ -107,25 +97,15 @@ close-spec =
     cast-depth
     get-requires-2
     cast-held
-    get-requires-3
-    sub-above
-    get-requires-4
-    possible-at-requires
-    cast-suffix
-    suffix-requires
-    cast-move-up
-    move-up-requires
+    move-out-requires
+    sub-front-if
     front-if-requires
     hand-out-requires
-    get-requires-5
-    cast-wrapping-add-u32
-    wrapping-add-u32-requires
-    cast-write
-    sub-write
-    cast-write-2
-    cast-write-3
-    write-requires
-    cast-t41
+    sub-count-close
+    cast-count-close
+    cast-count-close-2
+    count-close-requires
+    cast-t15
     same-length-2
     same-length-3
     same-length-4

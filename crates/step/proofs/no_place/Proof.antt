@@ -1,18 +1,26 @@
+-- The three cases. Assumes nothing.
 use borrow.Author.Needs.{needs}
+use mathlib.Core.Path.{refl}
+use Rattle.choice.specs.Pick.{pick-yes, pick-no}
+use Rattle.node.specs.Node.{mostHeld}
+use Rattle.step.specs.Step.{noPlace}
 use Rattle.step.proofs.no_place.Statement.{statement}
 use Rattle.step.proofs.no_place.Tie as tie
 
 returns : tie.Need-returns
-returns c = ?
+unfolding noPlace
+returns c = pick-yes _ _ _ _ (c .if1 .taken) refl
 
 sub-result : tie.Need-sub-result
 sub-result c = search needs
 
 returns-2 : tie.Need-returns-2
-returns-2 c = ?
+unfolding noPlace mostHeld
+returns-2 c = pick-no _ _ _ _ (c .before .before .if1 .left) (pick-yes _ _ _ _ (c .before .if2 .taken) refl)
 
 returns-3 : tie.Need-returns-3
-returns-3 c = ?
+unfolding noPlace
+returns-3 c = pick-no _ _ _ _ (c .before .if1 .left) (pick-no _ _ _ _ (c .if2 .left) refl)
 
 pub no-place-spec : {M : Type 1} → statement M
 no-place-spec = tie.close (tie.spec returns sub-result returns-2 returns-3)

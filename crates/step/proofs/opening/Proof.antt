@@ -1,4 +1,8 @@
+-- What each call answered, put together (Step.Laws, opening-told). Assumes nothing.
 use borrow.Author.Needs.{needs}
+use native.Mathlib.Omega.{arith}
+use Rattle.element.specs.Element.{mostOpen}
+use Rattle.step.specs.Step.Laws.{opening-told}
 use Rattle.step.proofs.opening.Statement.{statement}
 use Rattle.step.proofs.opening.Tie as tie
 
@@ -15,6 +19,7 @@ push-requires : tie.Need-push-requires
 push-requires c κs = search needs
 
 add-front-if : tie.Need-add-front-if
+unfolding mostOpen
 add-front-if c = search needs
 
 front-if-requires : tie.Need-front-if-requires
@@ -36,7 +41,15 @@ same-length : tie.Need-same-length
 same-length c = search needs
 
 returns : tie.Need-returns
-returns c = ?
+returns c = let sure = c .before .before in
+    let front = sure .before .before .before in
+    let pushed = front .before .before .before .before in
+    let joins = pushed .before .before in
+    let start = joins .before .before .before .before .before .before .before in
+    (opening-told _ _ _ _ _ _ (start .pre .1 .0) (start .pre .1 .1) _ _ _ _ _ _ _ _ _ _ (joins .before .before .before .named .ensures)
+    (joins .before .possible-at .ensures) (joins .last-given .ensures) (pushed .push .ensures .0) (front .front-if .ensures .0)
+    (sure .before .before .steps .ensures)
+    (sure .sure-at .ensures) (c .before .last-given2 .ensures) (c .all-go .ensures), front .front-if .ensures .1)
 
 pub opening-spec : {M : Type 1} → statement M
 opening-spec =

@@ -1,4 +1,15 @@
+-- Test by test as its model; where none applies the numbers fit. Assumes nothing.
 use borrow.Author.Needs.{needs}
+use native.Mathlib.Omega.{arith}
+use mathlib.Core.Path.{refl, sym, _∙_}
+use Rattle.choice.specs.Pick.{pick-yes, pick-no}
+use native.Mathlib.Nat.{lt-of-le-of-lt}
+use Rattle.choice.specs.Count.{positive}
+use Rattle.element.specs.Element.{mostOpen, elementsIn}
+use Rattle.node.specs.Node.{mostHeld}
+use Rattle.numbers.specs.Numbers.{numbersIn}
+use Rattle.step.specs.Step.{refuseClose}
+use Rattle.step.specs.Step.Laws.{ended-yes, ended-no, none-yes, none-no, at-least, less, past, within, depth-is, held-is, name-other, name-same}
 use Rattle.step.proofs.refuse_close.Statement.{statement}
 use Rattle.step.proofs.refuse_close.Tie as tie
 
@@ -6,7 +17,8 @@ get-requires : tie.Need-get-requires
 get-requires c κs = search needs
 
 returns : tie.Need-returns
-returns c = ?
+unfolding refuseClose
+returns c = (pick-yes _ _ _ _ (ended-yes _ _ (c .before .get .ensures) (c .if1 .taken)) refl, λ e. absurd (omega arith))
 
 get-requires-2 : tie.Need-get-requires-2
 get-requires-2 c κs = search needs
@@ -15,19 +27,25 @@ cast-depth : tie.Need-cast-depth
 cast-depth c = search needs
 
 returns-2 : tie.Need-returns-2
-returns-2 c = ?
+unfolding refuseClose
+returns-2 c = (pick-no _ _ _ _ (ended-no _ _ (c .before .before .before .get .ensures) (c .before .before .if1 .left)) (pick-yes _ _ _ _ (none-yes _ _ (c .before .get2 .ensures) (c .if2 .taken)) refl), λ e. absurd (omega arith))
 
 returns-3 : tie.Need-returns-3
-returns-3 c = ?
+unfolding refuseClose
+returns-3 c = (pick-no _ _ _ _ (ended-no _ _ (c .before .before .before .before .get .ensures) (c .before .before .before .if1 .left)) (pick-no _ _ _ _ (none-no _ _ (c .before .before .get2 .ensures) (c .before .if2 .left))
+    (pick-yes _ _ _ _ (past _ _ (c .before .before .get2 .ensures) _ (omega (arith, depth-is))) refl)), λ e. absurd (omega arith))
 
 sub-get : tie.Need-sub-get
 sub-get c = search needs
 
 get-requires-3 : tie.Need-get-requires-3
-get-requires-3 c κs = search needs
+get-requires-3 c κs = omega (arith, depth-is)
 
 returns-4 : tie.Need-returns-4
-returns-4 c = ?
+unfolding refuseClose
+returns-4 c = (pick-no _ _ _ _ (ended-no _ _ (c .before .before .before .before .before .before .get .ensures) (c .before .before .before .before .before .if1 .left)) (pick-no _ _ _ _ (none-no _ _ (c .before .before .before .before .get2 .ensures) (c .before .before .before .if2 .left))
+    (pick-no _ _ _ _ (within _ _ (c .before .before .before .before .get2 .ensures) mostOpen (omega (arith, depth-is)))
+    (pick-no _ _ _ _ (name-other (numbersIn (c .before .before .before .before .before .before .before .before .before .args .numbers .now)) (elementsIn (c .before .before .before .before .before .before .before .before .before .args .elements .now)) _ _ _ (c .before .before .before .before .get2 .ensures) (c .before .get3 .ensures) (c .if4 .taken)) refl))), λ e. absurd (omega arith))
 
 get-requires-4 : tie.Need-get-requires-4
 get-requires-4 c κs = search needs
@@ -36,10 +54,22 @@ cast-if5 : tie.Need-cast-if5
 cast-if5 c = search needs
 
 returns-5 : tie.Need-returns-5
-returns-5 c = ?
+unfolding refuseClose
+returns-5 c = (pick-no _ _ _ _ (ended-no _ _ (c .before .before .before .before .before .before .before .before .get .ensures) (c .before .before .before .before .before .before .before .if1 .left)) (pick-no _ _ _ _ (none-no _ _ (c .before .before .before .before .before .before .get2 .ensures) (c .before .before .before .before .before .if2 .left))
+    (pick-no _ _ _ _ (within _ _ (c .before .before .before .before .before .before .get2 .ensures) mostOpen (omega (arith, depth-is)))
+    (pick-yes _ _ _ _ (name-same (numbersIn (c .before .before .before .before .before .before .before .before .before .before .before .args .numbers .now)) (elementsIn (c .before .before .before .before .before .before .before .before .before .before .before .args .elements .now)) _ _ _ (c .before .before .before .before .before .before .get2 .ensures) (c .before .before .before .get3 .ensures) (c .before .before .if4 .left))
+    (pick-yes _ _ _ _ (past _ _ (c .before .get4 .ensures) mostHeld (omega (arith, held-is))) refl)))), λ e. absurd (omega arith))
 
 returns-6 : tie.Need-returns-6
-returns-6 c = ?
+unfolding refuseClose
+returns-6 c = (pick-no _ _ _ _ (ended-no _ _ (c .before .before .before .before .before .before .before .before .get .ensures) (c .before .before .before .before .before .before .before .if1 .left)) (pick-no _ _ _ _ (none-no _ _ (c .before .before .before .before .before .before .get2 .ensures) (c .before .before .before .before .before .if2 .left))
+    (pick-no _ _ _ _ (within _ _ (c .before .before .before .before .before .before .get2 .ensures) mostOpen (omega (arith, depth-is)))
+    (pick-yes _ _ _ _ (name-same (numbersIn (c .before .before .before .before .before .before .before .before .before .before .before .args .numbers .now)) (elementsIn (c .before .before .before .before .before .before .before .before .before .before .before .args .elements .now)) _ _ _ (c .before .before .before .before .before .before .get2 .ensures) (c .before .before .before .get3 .ensures) (c .before .before .if4 .left))
+    (pick-no _ _ _ _ (within _ _ (c .before .get4 .ensures) mostHeld (omega (arith, held-is))) refl)))), λ e. record {
+      some = positive _ (λ z. c .before .before .before .before .before .if2 .left (c .before .before .before .before .before .before .get2 .ensures ∙ z));
+      deep = omega (arith, depth-is, c .before .before .before .before .before .before .get2 .ensures);
+      held = omega (arith, held-is, c .before .get4 .ensures);
+    })
 
 pub refuse-close-spec : {M : Type 1} → statement M
 refuse-close-spec =

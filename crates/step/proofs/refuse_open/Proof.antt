@@ -1,4 +1,11 @@
+-- Test by test as its model; where none applies the numbers fit. Assumes nothing.
 use borrow.Author.Needs.{needs}
+use native.Mathlib.Omega.{arith}
+use mathlib.Core.Path.{refl, sym, _∙_}
+use Rattle.choice.specs.Pick.{pick-yes, pick-no}
+use native.Mathlib.Nat.{lt-of-le-of-lt}
+use Rattle.step.specs.Step.{refuseOpen}
+use Rattle.step.specs.Step.Laws.{ended-yes, ended-no, none-yes, none-no, at-least, less, past, within, depth-is, held-is, name-other, name-same}
 use Rattle.step.proofs.refuse_open.Statement.{statement}
 use Rattle.step.proofs.refuse_open.Tie as tie
 
@@ -6,7 +13,8 @@ get-requires : tie.Need-get-requires
 get-requires c κs = search needs
 
 returns : tie.Need-returns
-returns c = ?
+unfolding refuseOpen
+returns c = (pick-yes _ _ _ _ (ended-yes _ _ (c .before .get .ensures) (c .if1 .taken)) refl, λ e. absurd (omega arith))
 
 get-requires-2 : tie.Need-get-requires-2
 get-requires-2 c κs = search needs
@@ -15,13 +23,18 @@ cast-if2 : tie.Need-cast-if2
 cast-if2 c = search needs
 
 returns-2 : tie.Need-returns-2
-returns-2 c = ?
+unfolding refuseOpen
+returns-2 c = (pick-no _ _ _ _ (ended-no _ _ (c .before .before .before .get .ensures) (c .before .before .if1 .left))
+    (pick-yes _ _ _ _ (at-least _ _ (c .before .get2 .ensures) _ (omega (arith, depth-is))) refl), λ e. absurd (omega arith))
 
 get-requires-3 : tie.Need-get-requires-3
 get-requires-3 c κs = search needs
 
 returns-3 : tie.Need-returns-3
-returns-3 c = ?
+unfolding refuseOpen
+returns-3 c = (pick-no _ _ _ _ (ended-no _ _ (c .before .before .before .before .before .get .ensures) (c .before .before .before .before .if1 .left))
+    (pick-no _ _ _ _ (less _ _ (c .before .before .before .get2 .ensures) _ (omega (arith, depth-is)))
+    (pick-yes _ _ _ _ (at-least _ _ (c .before .get3 .ensures) _ (c .if3 .taken)) refl)), λ e. absurd (omega arith))
 
 get-requires-4 : tie.Need-get-requires-4
 get-requires-4 c κs = search needs
@@ -30,10 +43,22 @@ cast-if4 : tie.Need-cast-if4
 cast-if4 c = search needs
 
 returns-4 : tie.Need-returns-4
-returns-4 c = ?
+unfolding refuseOpen
+returns-4 c = (pick-no _ _ _ _ (ended-no _ _ (c .before .before .before .before .before .before .before .get .ensures) (c .before .before .before .before .before .before .if1 .left))
+    (pick-no _ _ _ _ (less _ _ (c .before .before .before .before .before .get2 .ensures) _ (omega (arith, depth-is)))
+    (pick-no _ _ _ _ (less _ _ (c .before .before .before .get3 .ensures) _ (c .before .before .if3 .left))
+    (pick-yes _ _ _ _ (past _ _ (c .before .get4 .ensures) _ (omega (arith, held-is))) refl))), λ e. absurd (omega arith))
 
 returns-5 : tie.Need-returns-5
-returns-5 c = ?
+unfolding refuseOpen
+returns-5 c = (pick-no _ _ _ _ (ended-no _ _ (c .before .before .before .before .before .before .before .get .ensures) (c .before .before .before .before .before .before .if1 .left))
+    (pick-no _ _ _ _ (less _ _ (c .before .before .before .before .before .get2 .ensures) _ (omega (arith, depth-is)))
+    (pick-no _ _ _ _ (less _ _ (c .before .before .before .get3 .ensures) _ (c .before .before .if3 .left))
+    (pick-no _ _ _ _ (within _ _ (c .before .get4 .ensures) _ (omega (arith, held-is))) refl))), λ e. record {
+      deep = omega (arith, depth-is, c .before .before .before .before .before .get2 .ensures);
+      few = omega (arith, c .before .before .before .get3 .ensures);
+      held = omega (arith, held-is, c .before .get4 .ensures);
+    })
 
 pub refuse-open-spec : {M : Type 1} → statement M
 refuse-open-spec =

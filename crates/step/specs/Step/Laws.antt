@@ -5,9 +5,11 @@
 --   copy-step, copy-done    one byte more is copied; all are
 --   open-refused, open-full, open-done      an open that its numbers refuse; refusal 7; one that is taken
 --   close-refused, close-done               a close that is refused; one that is taken
+--   move-told, count-open, count-close      the nodes of the innermost element; the numbers afterwards
+--   step-read-as            any event, by how its bytes were read
 --
 -- What is large is given explicitly. Assumes nothing.
-use Prim.Native.Nat.{ℕ, suc, _+_, _-_, _%_, _^_, _≤_, _<_}
+use Prim.Native.Nat.{ℕ, suc, _+_, _-_, _*_, _%_, _^_, _≤_, _<_}
 use native.Mathlib.Numerals.{add-one}
 use native.Mathlib.Omega.{arith}
 use mathlib.Core.Path.{_≡_, refl, sym, ap, ap₂, _∙_}
@@ -17,14 +19,18 @@ use mir.Val.{boolByte}
 use lib.Dec.{eqb, leb, ltb}
 use lib.ListN.{length, getD, set, take, drop, take-append-drop}
 use lib.Seq.{take-suc, take-suc-set, take-all, take-at, drop-at, length-take-le}
-use borrow.Author.Tests.{eq-eqb, ne-eqb, lt-leb, lt-ltb, le-ltb}
+use borrow.Author.Tests.{eq-eqb, ne-eqb, le-leb, lt-leb, lt-ltb, le-ltb, leb-false}
 use Rattle.choice.specs.Pick.{pick, pick-yes, pick-no, pick-true, pick-false}
+use Rattle.meaning.specs.Record.{eventOf}
+use Rattle.records.specs.declared.Event.{Event}
+use Rattle.records.specs.Read.{shown}
 use Rattle.sets.specs.Set.{meet, without}
 use Rattle.plan.specs.Plan.{Plan, named, lastGiven}
 use Rattle.engine.specs.Quick.{Frame, Waiting, State, Rise, rise, framesAfter, sureAt, possAt, Opening, opening, openingFrom, judged, over, wentIf, cut}
 use Rattle.engine.specs.Quick.Snoc.{framesAfter-length}
-use Rattle.element.specs.Element.{mostOpen, Elements, elementsIn, frameAt}
+use Rattle.element.specs.Element.{mostOpen, elementsRoom, Elements, elementsIn, frameAt}
 use Rattle.element.specs.Element.Laws.{frames-length}
+use Rattle.element.specs.Element.Laws as element
 use Rattle.elements.specs.Elements as elements
 use Rattle.elements.specs.Elements.{Risen, pushedIn, pushedBy}
 use Rattle.elements.specs.Elements.Laws.{sure-front, possible-front}
@@ -33,8 +39,10 @@ use Rattle.node.specs.Node.Laws.{nodes-length}
 use Rattle.nodes.specs.declared.Going.{Going}
 use Rattle.nodes.specs.Nodes.{levelOf, Moved, movedFrom, Handed, handedOut, Joined, joined}
 use Rattle.numbers.specs.Numbers.{Numbers, numbersOf}
-use Rattle.step.specs.Step.{refuseOpen, refuseClose, usedIn, goingOf, Opened, openedBy, openingIn, allGo, noPlace, overIn, After, after, refusedWith}
-use Rattle.step.specs.Step.{openWith, openBy, openTaken, onOpen, closeWith, closeOut, closeBy, closeFrom, closeTaken, onClose}
+use Rattle.step.specs.declared.Stepped.{Stepped}
+use Rattle.step.specs.Step.{outputNeeded, refuseOpen, refuseClose, usedIn, goingOf, Opened, openedBy, openingIn, allGo, noPlace, overIn, After, after, refusedWith}
+use Rattle.step.specs.Step.{openNumbers, openWith, openBy, openTaken, onOpen}
+use Rattle.step.specs.Step.{closeNumbers, movedOutFrom, movedOut, closeWith, closeOut, closeBy, closeTaken, onClose, step}
 
 -- an opening
 
@@ -171,6 +179,80 @@ module _ (P : Plan) (x depth held : ℕ) (bs ns : List ℕ) (deep : depth < most
       ∙ picked (o .all) (o .joins) (leb mostHeld (held - o .went))
       ∙ ap (λ n. not (o .all) && (o .joins && leb mostHeld (n - o .went))) (sym ws-length)
 
+  -- where none is wanting
+  pub has-place :
+      (go : Going) (E₁ : Elements) (b : Bool) → _≡_ {A = Opened} (record { going = go; elements = E₁ }) (openingIn P x depth held E N) →
+      b ≡ overIn P x depth held E N → b ≡ false → go .all ≡ false → go .joins ≡ true → held < mostHeld + go .went
+  unfolding noPlace
+  has-place go E₁ b e eb f na j =
+      let none : leb mostHeld (held - go .went) ≡ false =
+      sym (pick-false (go .all) false _ na ∙ pick-true (go .joins) (leb mostHeld (held - go .went)) false j)
+      ∙ over-told go E₁ (noPlace (go .all) (go .joins) (go .went) held) e refl ∙ sym eb ∙ f in
+      omega (arith, leb-false mostHeld (held - go .went) none)
+
+-- told on a copy
+pub over-copied :
+    (P : Plan) (x depth held : ℕ) (bs trial ns : List ℕ) → depth < mostOpen → held ≤ mostHeld → trial ≡ bs → (go : Going) (E₁ : Elements) (r : Bool) →
+    _≡_ {A = Opened} (record { going = go; elements = E₁ }) (openingIn P x depth held (elementsIn trial) (queueIn ns)) →
+    r ≡ noPlace (go .all) (go .joins) (go .went) held → r ≡ overIn P x depth held (elementsIn bs) (queueIn ns)
+over-copied P x depth held bs trial ns deep few c go E₁ r e er =
+    over-told P x depth held trial ns deep few go E₁ r e er ∙ ap (λ b. overIn P x depth held (elementsIn b) (queueIn ns)) c
+
+-- the tests of numbers, by what was read
+
+module _ (read v : ℕ) (e : read ≡ v) where
+  pub ended-yes : (read ≡ 0 → ⊥) → not (eqb v 0) ≡ true
+  ended-yes d = ap not (ne-eqb v 0 (λ z. d (e ∙ z)))
+
+  pub ended-no : read ≡ 0 → not (eqb v 0) ≡ false
+  ended-no z = ap not (eq-eqb v 0 (sym e ∙ z))
+
+  pub none-yes : read ≡ 0 → eqb v 0 ≡ true
+  none-yes z = eq-eqb v 0 (sym e ∙ z)
+
+  pub none-no : (read ≡ 0 → ⊥) → eqb v 0 ≡ false
+  none-no d = ne-eqb v 0 (λ z. d (e ∙ z))
+
+  pub at-least : (n : ℕ) → n ≤ read → leb n v ≡ true
+  at-least n h = le-leb n v (omega arith)
+
+  pub less : (n : ℕ) → read < n → leb n v ≡ false
+  less n h = lt-leb n v (omega arith)
+
+  pub past : (n : ℕ) → n < read → ltb n v ≡ true
+  past n h = lt-ltb n v (omega arith)
+
+  pub within : (n : ℕ) → read ≤ n → ltb n v ≡ false
+  within n h = le-ltb n v (omega arith)
+
+pub room-is : elementsRoom ≡ 16384
+unfolding mostOpen
+room-is = element.room-is
+
+pub output-is : outputNeeded ≡ 4 * mostHeld + 4
+unfolding outputNeeded
+output-is = refl
+
+pub depth-is : mostOpen ≡ 256
+unfolding mostOpen
+depth-is = refl
+
+pub held-is : mostHeld ≡ 1024
+unfolding mostHeld
+held-is = refl
+
+-- the innermost name
+
+module _ (n : Numbers) (E : Elements) (x depth name : ℕ) (ed : depth ≡ n .depth) (en : name ≡ frameAt E (depth - 1) .name) where
+  read : name ≡ frameAt E (n .depth - 1) .name
+  read = en ∙ ap (λ d. frameAt E (d - 1) .name) ed
+
+  pub name-other : (name ≡ x → ⊥) → eqb (frameAt E (n .depth - 1) .name) x ≡ false
+  name-other d = ne-eqb _ _ (λ e. d (read ∙ e))
+
+  pub name-same : name ≡ x → eqb (frameAt E (n .depth - 1) .name) x ≡ true
+  name-same e = eq-eqb _ _ (sym read ∙ e)
+
 -- a copy
 
 module _ (xs ys : List ℕ) (same : length ys ≡ length xs) (i : ℕ) where
@@ -184,6 +266,11 @@ module _ (xs ys : List ℕ) (same : length ys ≡ length xs) (i : ℕ) where
 
   pub copy-done : length xs ≤ i → take i ys ≡ take i xs → ys ≡ xs
   copy-done h e = sym (take-all i ys (omega arith)) ∙ e ∙ take-all i xs h
+
+pub refused-as :
+    (s : Stepped) (r : ℕ) (n : Numbers) (E : Elements) (N : Queue) (out : List ℕ) → s ≡ record { refusal = r; given = 0 } →
+    after (s .refusal) (s .given) n E N out ≡ refusedWith r n E N out
+refused-as s r n E N out e = ap (λ (t : Stepped). after (t .refusal) (t .given) n E N out) e
 
 -- an open
 
@@ -199,18 +286,17 @@ module _ (P : Plan) (x : ℕ) (n : Numbers) (E : Elements) (N : Queue) (out : Li
         pick-yes _ _ _ _ (eq-eqb _ _ (sym er ∙ z)) (pick-yes _ _ _ _ (sym (ap₂ (λ d h. overIn P x d h E N) ed eh) ∙ sym e ∙ t) refl)
 
     pub open-done :
-        (b : Bool) (o : Opened) (j : Joined) (number handed given : ℕ) → b ≡ overIn P x depth held E N → b ≡ false →
+        (b : Bool) (o : Opened) (j : Joined) (number given : ℕ) (n′ : Numbers) → b ≡ overIn P x depth held E N → b ≡ false →
         o ≡ openingIn P x depth held E N → number ≡ n .opened + 1 → given ≡ o .going .went + boolByte (o .going .all) →
-        handed ≡ (n .handed + given) % 2 ^ 32 → j ≡ joined (o .going) held number (depth + 1) N out →
-        after 0 given (numbersOf (depth + 1) (j .held) number handed 0) (o .elements) (j .queue) (j .out) ≡ onOpen P x n E N out
+        j ≡ joined (o .going) held number (depth + 1) N out → n′ ≡ openNumbers n (j .held) given →
+        after 0 given n′ (o .elements) (j .queue) (j .out) ≡ onOpen P x n E N out
     unfolding onOpen openTaken
-    open-done b o j number handed given e f eo en eg eha ej =
+    open-done b o j number given n′ e f eo en eg ej em =
         let g : ℕ = o .going .went + boolByte (o .going .all) in
         pick-yes _ _ _ _ (eq-eqb _ _ (sym er ∙ z))
         (pick-no _ _ _ _ (sym (ap₂ (λ d h. overIn P x d h E N) ed eh) ∙ sym e ∙ f)
-        (ap₂ (λ d k. after 0 given (numbersOf (d + 1) (j .held) k handed 0) (o .elements) (j .queue) (j .out)) ed en
-        ∙ ap₂ (λ k h. after 0 k (numbersOf (n .depth + 1) (j .held) (n .opened + 1) h 0) (o .elements) (j .queue) (j .out)) eg
-        (eha ∙ ap (λ k. (n .handed + k) % 2 ^ 32) eg)
+        (ap (λ k. after 0 given k (o .elements) (j .queue) (j .out)) em
+        ∙ ap (λ k. after 0 k (openNumbers n (j .held) k) (o .elements) (j .queue) (j .out)) eg
         ∙ ap (openWith n o)
         (ej ∙ ap₂ (λ d h. joined (o .going) h number (d + 1) N out) ed eh ∙ ap (λ k. joined (o .going) (n .held) k (n .depth + 1) N out) en)
         ∙ ap (openBy n N out) (eo ∙ ap₂ (λ d h. openingIn P x d h E N) ed eh)))
@@ -220,20 +306,49 @@ module _ (P : Plan) (x : ℕ) (n : Numbers) (E : Elements) (N : Queue) (out : Li
   close-refused r e f = pick-no _ _ _ _ (ne-eqb _ _ (λ z. f (e ∙ z))) (ap (λ k. refusedWith k n E N out) e)
 
   pub close-done :
-      (r depth held from ready met went handed : ℕ) (w : Moved) (h : Handed) → r ≡ refuseClose n E x → r ≡ 0 → depth ≡ n .depth → held ≡ n .held →
-      met ≡ frameAt E (depth - 1) .met → ready ≡ possAt P (E .list) (depth - 1) →
-      from ≡ length (cut levelOf depth (take held (N .list)) .before) → w ≡ movedFrom P met ready (depth - 1) held from from N →
+      (r depth held went : ℕ) (w : Moved) (h : Handed) (n′ : Numbers) → r ≡ refuseClose n E x → r ≡ 0 → depth ≡ n .depth → held ≡ n .held →
+      w ≡ movedOut P depth held E N →
       went ≡ wentIf (ltb (w .held) held) P (take (depth - 1) (E .list)) (take (w .held) (w .queue .list)) →
-      h ≡ handedOut went (w .held) (w .queue) out → handed ≡ (n .handed + went) % 2 ^ 32 →
-      after 0 went (numbersOf (depth - 1) (w .held - went) (n .opened) handed (boolByte (eqb (depth - 1) 0))) E (h .queue) (h .out)
-      ≡ onClose P x n E N out
+      h ≡ handedOut went (w .held) (w .queue) out → n′ ≡ closeNumbers n (w .held - went) went →
+      after 0 went n′ E (h .queue) (h .out) ≡ onClose P x n E N out
   unfolding onClose closeTaken
-  close-done r depth held from ready met went handed w h er z ed eh em ea ef ew ek ehn eha =
+  close-done r depth held went w h n′ er z ed eh ew ek ehn em =
       pick-yes _ _ _ _ (eq-eqb _ _ (sym er ∙ z))
-      (ap₂ (λ d k. after 0 went (numbersOf (d - 1) (w .held - went) (n .opened) k (boolByte (eqb (d - 1) 0))) E (h .queue) (h .out)) ed eha
+      (ap (λ k. after 0 went k E (h .queue) (h .out)) em
       ∙ ap (closeWith n E (w .held) went) ehn
       ∙ ap (closeOut n E out w) (ek ∙ ap₂ (λ d k. wentIf (ltb (w .held) k) P (take (d - 1) (E .list)) (take (w .held) (w .queue .list))) ed eh)
-      ∙ ap (closeBy P n E out)
-      (ew ∙ ap₂ (λ a b. movedFrom P a b (depth - 1) held from from N) em ea
-      ∙ ap₂ (λ d k. movedFrom P (frameAt E (d - 1) .met) (possAt P (E .list) (d - 1)) (d - 1) k from from N) ed eh)
-      ∙ ap (closeFrom P n E N out) (ef ∙ ap₂ (λ d k. length (cut levelOf d (take k (N .list)) .before)) ed eh))
+      ∙ ap (closeBy P n E out) (ew ∙ ap₂ (λ d k. movedOut P d k E N) ed eh))
+
+-- the nodes of the innermost element
+
+pub move-told :
+    (P : Plan) (depth held : ℕ) (E : Elements) (N : Queue) (met ready from : ℕ) (w : Moved) → met ≡ frameAt E (depth - 1) .met →
+    ready ≡ possAt P (E .list) (depth - 1) → from ≡ length (cut levelOf depth (take held (N .list)) .before) →
+    w ≡ movedFrom P met ready (depth - 1) held from from N → w ≡ movedOut P depth held E N
+unfolding movedOut
+move-told P depth held E N met ready from w em ea ef ew =
+    ew ∙ ap₂ (λ a b. movedFrom P a b (depth - 1) held from from N) em ea ∙ ap (movedOutFrom P depth held E N) ef
+
+-- the numbers
+
+module _ (n : Numbers) (held given depth opened handed sum : ℕ) (ed : depth ≡ n .depth) (eo : opened ≡ n .opened) (eh : handed ≡ n .handed)
+    (es : sum ≡ (handed + given) % 2 ^ 32) where
+  total : sum ≡ (n .handed + given) % 2 ^ 32
+  total = es ∙ ap (λ h. (h + given) % 2 ^ 32) eh
+
+  pub count-open : (n′ : Numbers) → n′ ≡ numbersOf (depth + 1) held (opened + 1) sum 0 → n′ ≡ openNumbers n held given
+  unfolding openNumbers
+  count-open n′ e = e ∙ ap₂ (λ d o. numbersOf (d + 1) held (o + 1) sum 0) ed eo ∙ ap (λ s. numbersOf (n .depth + 1) held (n .opened + 1) s 0) total
+
+  pub count-close :
+      (n′ : Numbers) → n′ ≡ numbersOf (depth - 1) held opened sum (boolByte (eqb (depth - 1) 0)) → n′ ≡ closeNumbers n held given
+  unfolding closeNumbers
+  count-close n′ e =
+      e ∙ ap₂ (λ d o. numbersOf (d - 1) held o sum (boolByte (eqb (d - 1) 0))) ed eo
+      ∙ ap (λ s. numbersOf (n .depth - 1) held (n .opened) s (boolByte (eqb (n .depth - 1) 0))) total
+
+-- any event, by how its bytes were read
+pub step-read-as :
+    (P : Plan) (bytes : List ℕ) (e : Event) (n : Numbers) (E : Elements) (N : Queue) (out : List ℕ) (a : After) → e ≡ shown (eventOf bytes) →
+    a ≡ step P e n E N out → a ≡ step P (shown (eventOf bytes)) n E N out
+step-read-as P bytes e n E N out a is so = so ∙ ap (λ (y : Event). step P y n E N out) is

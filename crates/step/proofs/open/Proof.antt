@@ -1,0 +1,155 @@
+-- What each call answered, put together (Step.Laws); what the numbers keep makes each call fit. Assumes nothing.
+use borrow.Author.Needs.{needs}
+use native.Mathlib.Omega.{arith}
+use mathlib.Core.Path.{refl, ap, _∙_}
+use Rattle.choice.specs.Count.{boolByte-le}
+use Rattle.numbers.specs.Numbers.{numbersIn}
+use Rattle.element.specs.Element.{elementsIn}
+use Rattle.node.specs.Node.{queueIn}
+use Prim.Native.Nat.{_+_}
+use Rattle.plan_bytes.specs.Kept.{keptIn}
+use Rattle.step.specs.Step.Laws.{depth-is, held-is, output-is, has-place, refused-as, open-refused, open-full, open-done}
+use Rattle.step.proofs.open.Statement.{statement}
+use Rattle.step.proofs.open.Tie as tie
+
+refuse-open-requires : tie.Need-refuse-open-requires
+refuse-open-requires c κs = search needs
+
+refused-requires : tie.Need-refused-requires
+refused-requires c κs = search needs
+
+same-length : tie.Need-same-length
+same-length c = search needs
+
+returns : tie.Need-returns
+returns c = let args = c .before .before .before .before .before .before .before .before .before .args in
+    refused-as _ _ _ _ _ _ (c .refused .ensures)
+    ∙ open-refused (keptIn (args .kept .now)) (args .x) _ (elementsIn (args .elements .now)) (queueIn (args .nodes .now)) _ _
+    (c .before .before .refuse-open .ensures .0) (c .before .if1 .taken)
+
+get-requires : tie.Need-get-requires
+get-requires c κs = search needs
+
+cast-depth : tie.Need-cast-depth
+cast-depth c = search needs
+
+get-requires-2 : tie.Need-get-requires-2
+get-requires-2 c κs = search needs
+
+cast-held : tie.Need-cast-held
+cast-held c = search needs
+
+full-requires : tie.Need-full-requires
+full-requires c κs = let fits = c .before .before .before .before .before .before .before .refuse-open .ensures .1 (c .before .before .before .before .before .before .if1 .left) in
+    (search needs, (omega (arith, c .before .before .before .before .get .ensures, fits .deep), omega (arith, c .before .before .get2 .ensures, fits .held)))
+
+refused-requires-2 : tie.Need-refused-requires-2
+refused-requires-2 c κs = search needs
+
+same-length-2 : tie.Need-same-length-2
+same-length-2 c = search needs
+
+same-length-3 : tie.Need-same-length-3
+same-length-3 c = search needs
+
+same-length-4 : tie.Need-same-length-4
+same-length-4 c = search needs
+
+returns-2 : tie.Need-returns-2
+returns-2 c = let args = c .before .before .before .before .before .before .before .before .before .before .before .before .before .before .before .before .before .args in
+    refused-as _ _ _ _ _ _ (c .refused2 .ensures)
+    ∙ open-full (keptIn (args .kept .now)) (args .x) (numbersIn (args .numbers .now)) (elementsIn (args .elements .now)) (queueIn (args .nodes .now)) _ _ _ _
+    (c .before .before .before .before .before .before .before .before .before .before .refuse-open .ensures .0) (c .before .before .before .before .before .before .before .before .before .if1 .left) (c .before .before .before .before .before .before .before .get .ensures) (c .before .before .before .before .before .get2 .ensures) _ (c .before .before .full .ensures) (c .before .if2 .taken)
+
+opening-requires : tie.Need-opening-requires
+opening-requires c κs = let fits = c .before .before .before .before .before .before .before .before .before .before .before .refuse-open .ensures .1 (c .before .before .before .before .before .before .before .before .before .before .if1 .left) in
+    (search needs, (omega (arith, c .before .before .before .before .before .before .before .before .get .ensures, fits .deep), omega (arith, c .before .before .before .before .before .before .get2 .ensures, fits .held)))
+
+get-requires-3 : tie.Need-get-requires-3
+get-requires-3 c κs = search needs
+
+add-number : tie.Need-add-number
+add-number c = let fits = c .before .before .before .before .before .before .before .before .before .before .before .before .before .before .before .before .refuse-open .ensures .1 (c .before .before .before .before .before .before .before .before .before .before .before .before .before .before .before .if1 .left) in omega (arith, c .get3 .ensures, fits .few)
+
+add-join : tie.Need-add-join
+add-join c = let fits = c .before .before .before .before .before .before .before .before .before .before .before .before .before .before .before .before .refuse-open .ensures .1 (c .before .before .before .before .before .before .before .before .before .before .before .before .before .before .before .if1 .left) in omega (arith, depth-is, c .before .before .before .before .before .before .before .before .before .before .before .before .before .get .ensures, fits .deep)
+
+cast-join : tie.Need-cast-join
+cast-join c = let fits = c .before .before .before .before .before .before .before .before .before .before .before .before .before .before .before .before .refuse-open .ensures .1 (c .before .before .before .before .before .before .before .before .before .before .before .before .before .before .before .if1 .left) in omega (arith, depth-is, c .before .before .before .before .before .before .before .before .before .before .before .before .before .get .ensures, fits .deep)
+
+join-requires : tie.Need-join-requires
+join-requires c κs = let fits = c .before .before .before .before .before .before .before .before .before .before .before .before .before .before .before .before .before .before .refuse-open .ensures .1 (c .before .before .before .before .before .before .before .before .before .before .before .before .before .before .before .before .before .if1 .left) in
+    let start = c .before .before .before .before .before .before .before .before .before .before .before .before .before .before .before .before .before .before .before .before .before .before .before .before .before in
+    ((search needs, (c .before .before .before .before .before .before .opening .ensures .1, (omega (arith, c .before .before .before .before .before .before .before .before .before .before .before .before .before .get2 .ensures, fits .held), omega (arith, output-is, c .before .before .before .before .before .before .before .before .before .before .before .before .before .get2 .ensures, fits .held, start .pre .1 .1 .1)))),
+    has-place _ _ _ _ _ _ (omega (arith, c .before .before .before .before .before .before .before .before .before .before .before .before .before .before .before .get .ensures, fits .deep)) (omega (arith, c .before .before .before .before .before .before .before .before .before .before .before .before .before .get2 .ensures, fits .held)) _ _ _
+    (c .before .before .before .before .before .before .opening .ensures .0) (c .before .before .before .before .before .before .before .before .before .before .full .ensures) (c .before .before .before .before .before .before .before .before .before .if2 .left))
+
+cast-given : tie.Need-cast-given
+cast-given c = let fits = c .before .before .before .before .before .before .before .before .before .before .before .before .before .before .before .before .before .before .before .before .before .before .before .before .refuse-open .ensures .1 (c .before .before .before .before .before .before .before .before .before .before .before .before .before .before .before .before .before .before .before .before .before .before .before .if1 .left) in omega (arith, held-is, c .before .before .before .before .before .before .before .before .before .before .before .before .opening .ensures .1, c .before .before .before .before .before .before .before .before .before .before .before .before .before .before .before .before .before .before .before .get2 .ensures, fits .held)
+
+cast-given-2 : tie.Need-cast-given-2
+cast-given-2 c = search needs
+
+add-given : tie.Need-add-given
+add-given c = let fits = c .before .before .before .before .before .before .before .before .before .before .before .before .before .before .before .before .before .before .before .before .before .before .before .before .before .refuse-open .ensures .1 (c .before .before .before .before .before .before .before .before .before .before .before .before .before .before .before .before .before .before .before .before .before .before .before .before .if1 .left) in
+    omega (arith, held-is, c .before .before .before .before .before .before .before .before .before .before .before .before .before .opening .ensures .1, c .before .before .before .before .before .before .before .before .before .before .before .before .before .before .before .before .before .before .before .before .get2 .ensures, fits .held, boolByte-le (c .before .before .before .before .before .before .before .before .before .before .before .before .before .opening .result .all))
+
+cast-count-open : tie.Need-cast-count-open
+cast-count-open c = omega (arith, held-is, c .before .before .before .before .before .before .before .join .ensures .1)
+
+count-open-requires : tie.Need-count-open-requires
+count-open-requires c κs = (c .before .before .before .before .before .before .before .before .before .before .before .before .before .before .before .before .before .before .before .before .before .before .before .before .before .before .before .before .before .before .before .before .before .pre .0 .1, c .before .before .before .before .before .before .before .before .before .before .before .before .before .before .before .before .before .before .before .before .before .before .before .before .before .before .refuse-open .ensures .1 (c .before .before .before .before .before .before .before .before .before .before .before .before .before .before .before .before .before .before .before .before .before .before .before .before .before .if1 .left))
+
+same-length-5 : tie.Need-same-length-5
+same-length-5 c = search needs
+
+same-length-6 : tie.Need-same-length-6
+same-length-6 c = search needs
+
+same-length-7 : tie.Need-same-length-7
+same-length-7 c = search needs
+
+same-length-8 : tie.Need-same-length-8
+same-length-8 c = search needs
+
+returns-3 : tie.Need-returns-3
+returns-3 c = let args = c .before .before .before .before .before .before .before .before .before .before .before .before .before .before .before .before .before .before .before .before .before .before .before .before .before .before .before .before .before .before .before .before .before .before .before .before .args in
+    open-done (keptIn (args .kept .now)) (args .x) (numbersIn (args .numbers .now)) (elementsIn (args .elements .now)) (queueIn (args .nodes .now)) (args .out .now)
+    _ _ _ (c .before .before .before .before .before .before .before .before .before .before .before .before .before .before .before .before .before .before .before .before .before .before .before .before .before .before .before .before .before .refuse-open .ensures .0) (c .before .before .before .before .before .before .before .before .before .before .before .before .before .before .before .before .before .before .before .before .before .before .before .before .before .before .before .before .if1 .left) (c .before .before .before .before .before .before .before .before .before .before .before .before .before .before .before .before .before .before .before .before .before .before .before .before .before .before .get .ensures) (c .before .before .before .before .before .before .before .before .before .before .before .before .before .before .before .before .before .before .before .before .before .before .before .before .get2 .ensures) _ _ _ _ _ _
+    (c .before .before .before .before .before .before .before .before .before .before .before .before .before .before .before .before .before .before .before .before .before .full .ensures) (c .before .before .before .before .before .before .before .before .before .before .before .before .before .before .before .before .before .before .before .before .if2 .left) (c .before .before .before .before .before .before .before .before .before .before .before .before .before .before .before .before .before .opening .ensures .0) (ap (λ k. k + 1) (c .before .before .before .before .before .before .before .before .before .before .before .before .before .get3 .ensures)) refl (c .before .before .before .before .before .before .before .before .before .before .join .ensures .0)
+    (c .before .before .count-open .ensures)
+
+pub open-spec : {M : Type 1} → statement M
+open-spec =
+    tie.close
+    (tie.spec
+    refuse-open-requires
+    refused-requires
+    same-length
+    returns
+    get-requires
+    cast-depth
+    get-requires-2
+    cast-held
+    full-requires
+    refused-requires-2
+    same-length-2
+    same-length-3
+    same-length-4
+    returns-2
+    opening-requires
+    get-requires-3
+    add-number
+    add-join
+    cast-join
+    join-requires
+    cast-given
+    cast-given-2
+    add-given
+    cast-count-open
+    count-open-requires
+    same-length-5
+    same-length-6
+    same-length-7
+    same-length-8
+    returns-3)
