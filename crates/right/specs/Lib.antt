@@ -1,3 +1,4 @@
 pub mod Lists
 pub mod Used
 pub mod Opens
+pub mod Closes
