@@ -2,3 +2,4 @@ pub mod Lists
 pub mod Used
 pub mod Opens
 pub mod Closes
+pub mod Right
