@@ -1,7 +1,8 @@
--- The records after some have been handed out, and what is read off the front of a list.
+-- The records of the waiting nodes after some have been handed out, and after one more has joined.
 --
---   shifted-list         the first k of `held` leave: the others stand at the front, and from there on all is as it was
---   shifted-took         so many are in use then;  shifted-length: as many records as before
+--   rest-length          how many are left of `held` nodes where the first k leave
+--   shifted-list         those stand at the front, and behind them all is as it was
+--   shifted-took         they are in use then;  shifted-length: as many records as before
 --   joined-list          one more, behind them;  joined-took, joined-length: those in use, and as many as before
 --
 -- Assumes nothing.
