@@ -1,0 +1,5 @@
+pub mod Lists
+pub mod Used
+pub mod Opens
+pub mod Closes
+pub mod Right

@@ -1,0 +1,291 @@
+-- THE STEP IS RIGHT: on rooms that stand for a document an event comes to what the meaning owes, and the rooms then stand for the next document.
+--
+--   Stands q d n E N     the numbers n and the records E and N stand for the query q and the document d
+--   Within q d           the document keeps the limits: so does every one that accepted events lead to
+--   newly q d d′         the nodes that d′ lists and d does not
+--   stepRefusals q d e   the refusal table for the event e at the document d, from row 2 on
+--   Taken q d d′ out a   what an event comes to that leads from d to d′
+--   StepOwed q d e n E N out o a     what the event e comes to, o being the lowest refusal that applies: a refusal leaves all as it was (refuses), an
+--                        event that none refuses is taken (takes)
+--   stands-begun         numbers that are all 0 stand for the blank document, whatever is in the records
+--   ended-read, opened-read, handed-read, depth-read, held-read      what the numbers of rooms are that stand for a document
+--   waiting-read         and the waiting nodes' numbers
+--   step-right           THE STEP
+--
+-- Assumes nothing, not of the buffer's length either: row 1 is the caller's. NOT here: that accepted events stay within the limits.
+use Prim.Native.Nat.{ℕ, _-_, _≤_, _<_}
+use native.Mathlib.Omega.{arith}
+use mathlib.Core.Path.{_≡_, refl, sym, ap, ap₂, _∙_, subst, subst₂}
+use mathlib.Core.Bool.{Bool, true, false, not, _&&_}
+use mathlib.Core.List.{List, [], _∷_, _++_, map}
+use mathlib.Core.Option.{Option, none, some}
+use lib.Dec.{T, eqb, leb, ltb}
+use lib.ListN.{length, getD, take, drop, List·getD-map}
+use lib.Seq.{drop-append-seam, getD-take, length-take-le}
+use borrow.Author.Tests.{eqb-false, leb-false, le-ltb}
+use Rattle.choice.specs.Pick.{pick}
+use Rattle.choice.specs.Count.{down, positive}
+use Rattle.meaning.specs.Query.{Query, admits}
+use Rattle.meaning.specs.Document.{Doc, done as done-row, within, blank, opened, closed, count, depth, isOpen, finished, endsAt}
+use Rattle.meaning.specs.Standing.{listed, held}
+use Rattle.meaning.specs.Stream as Stream
+use Rattle.meaning.specs.Answer.{Refusal, refusal, isBad, isOpening, closesWrong, actIf, lowestOr, lowest}
+use Rattle.plan.specs.Plan.{Plan, plan}
+use Rattle.engine.specs.Quick.{State, Result, begun, opening, over, nameAt, quickOpen, quickClose}
+use Rattle.engine.specs.Quick.Of.{quickState}
+use Rattle.engine.specs.Quick.Reads.{quick-begun, quick-held, quick-waiting, quick-depth, quick-ends}
+use Rattle.engine.specs.Quick.Theorem.{quick-open, quick-open-out, quick-over, quick-close, quick-close-out}
+use Rattle.records.specs.Read.{shown}
+use Rattle.records.specs.Write.{buffer}
+use Rattle.element.specs.Element.{mostOpen, Elements, noFrame, frameAt}
+use Rattle.node.specs.Node.{mostHeld, Queue}
+use Rattle.nodes.specs.Nodes.{numbers}
+use Rattle.numbers.specs.Numbers.{Numbers, numbersOf}
+use Rattle.step.specs.Step.{nodeLimit, OpenFits, CloseFits, refuseOpen, refuseClose, overIn, After, refusedWith, openTaken, onOpen, closeTaken, onClose, step}
+use Rattle.right.specs.Used.{stateIn, Roomy, Takes, over-used}
+use Rattle.right.specs.Opens.{open-takes}
+use Rattle.right.specs.Closes.{close-takes}
+
+pub record Stands (q : Query) (d : Doc) (n : Numbers) (E : Elements) (N : Queue) : Type 0 where
+  pub state : stateIn n E N ≡ quickState q d
+  pub roomy : Roomy E N
+  pub deep : n .depth ≤ mostOpen
+  pub few : n .held ≤ mostHeld
+
+pub record Within (q : Query) (d : Doc) : Type 0 where
+  pub admitted : T (admits q)
+  pub steps : length q ≤ 32
+  pub deep : depth d ≤ mostOpen
+  pub few : length (held q d) ≤ mostHeld
+  pub listing : length (listed q d) ≤ 16777215
+
+abbrev pub newly : Query → Doc → Doc → List ℕ
+newly q d d′ = drop (length (listed q d)) (listed q d′)
+
+-- the table of document 01, line by line from line 2 on
+unfoldable pub stepRefusals : Query → Doc → Option Stream.Event → List Refusal
+stepRefusals q d e =
+    refusal 2 (isBad e)
+    ∷ refusal 3 (finished d)
+    ∷ refusal 4 (closesWrong e d)
+    ∷ refusal 5 (isOpening e && leb mostOpen (depth d))
+    ∷ refusal 6 (isOpening e && leb nodeLimit (count d))
+    ∷ refusal 7 (isOpening e && ltb mostHeld (length (held q (actIf e d))))
+    ∷ []
+
+pub record Taken (q : Query) (d d′ : Doc) (out : List ℕ) (a : After) : Type 0 where
+  pub refusal : a .refusal ≡ 0
+  pub stands : Stands q d′ (a .numbers) (a .elements) (a .nodes)
+  pub given : a .given ≡ length (newly q d d′)
+  pub written : a .out ≡ buffer (newly q d d′) out
+
+pub data StepOwed (q : Query) (d : Doc) (e : Option Stream.Event) (n : Numbers) (E : Elements) (N : Queue) (out : List ℕ) : Option ℕ → After → Type 0 where
+  refuses : {r : ℕ} {a : After} → a ≡ refusedWith r n E N out → StepOwed q d e n E N out (some r) a
+  takes : {a : After} → Taken q d (actIf e d) out a → StepOwed q d e n E N out none a
+
+pub stands-begun : (q : Query) (E : Elements) (N : Queue) → Roomy E N → Stands q blank (numbersOf 0 0 0 0 0) E N
+unfolding stateIn begun
+stands-begun q E N room = record { state = sym (quick-begun q); roomy = room; deep = omega arith; few = omega arith }
+
+-- what is read of rooms that stand for a document
+
+module _ (q : Query) (d : Doc) (n : Numbers) (E : Elements) (N : Queue) (st : Stands q d n E N) where
+  pub ended-read : not (eqb (n .ended) 0) ≡ finished d
+  unfolding stateIn quickState
+  ended-read = ap (λ (s : State). s .ended) (st .state)
+
+  pub opened-read : n .opened ≡ count d
+  unfolding stateIn quickState
+  opened-read = ap (λ (s : State). s .opened) (st .state)
+
+  pub handed-read : n .handed ≡ length (listed q d)
+  unfolding stateIn quickState
+  handed-read = ap (λ (s : State). s .handed) (st .state)
+
+  pub depth-read : n .depth ≡ depth d
+  unfolding stateIn
+  depth-read =
+      sym (length-take-le (n .depth) (E .list) (omega (arith, st .deep, st .roomy .elements)))
+      ∙ ap (λ (s : State). length (s .frames)) (st .state)
+      ∙ quick-depth q d
+
+  pub waiting-read : numbers (take (n .held) (N .list)) ≡ held q d
+  unfolding stateIn
+  waiting-read = ap (λ (s : State). numbers (s .queue)) (st .state) ∙ quick-held q d
+
+  pub held-read : n .held ≡ length (held q d)
+  unfolding stateIn
+  held-read =
+      sym (length-take-le (n .held) (N .list) (omega (arith, st .few, st .roomy .nodes)))
+      ∙ ap (λ (s : State). length (s .queue)) (st .state)
+      ∙ quick-waiting q d
+
+  -- the innermost name
+  name-read : 0 < n .depth → frameAt E (n .depth - 1) .name ≡ nameAt (quickState q d .frames) (depth d)
+  unfolding nameAt stateIn
+  name-read h =
+      ap (λ f. f .name) (sym (getD-take (n .depth) (E .list) (n .depth - 1) noFrame (omega arith)))
+      ∙ sym (List·getD-map (λ f. f .name) (take (n .depth) (E .list)) (n .depth - 1) noFrame)
+      ∙ ap (λ k. getD (0 ∷ map (λ f. f .name) (take (n .depth) (E .list))) k 0) (sym (down (n .depth) h))
+      ∙ ap₂ (λ (s : State) k. nameAt (s .frames) k) (st .state) depth-read
+
+  ends-read : (x : ℕ) → endsAt x d ≡ (not (eqb (n .depth) 0) && eqb (frameAt E (n .depth - 1) .name) x)
+  ends-read x =
+      quick-ends q x d
+      ∙ ap (λ k. not (eqb k 0) && eqb (nameAt (quickState q d .frames) (depth d)) x) (sym depth-read)
+      ∙ either (eqb (n .depth) 0) _ _ (λ e. ap (λ m. eqb m x) (sym (name-read (positive (n .depth) (eqb-false (n .depth) 0 e)))))
+    where
+      either : (z a b : Bool) → (z ≡ false → a ≡ b) → (not z && a) ≡ (not z && b)
+      either true a b h = refl
+      either false a b h = h refl
+
+-- an engine's result that is the meaning's
+taken-right :
+    (q : Query) (d d′ : Doc) (out : List ℕ) (r : Result) (a : After) → Takes r a out → r .state ≡ quickState q d′ → listed q d ++ r .out ≡ listed q d′ →
+    Taken q d d′ out a
+taken-right q d d′ out r a t es eo =
+    let e : r .out ≡ newly q d d′ = sym (drop-append-seam (listed q d) (r .out)) ∙ ap (drop (length (listed q d))) eo in
+    record {
+      refusal = t .refusal;
+      stands = record { state = t .state ∙ es; roomy = t .roomy; deep = t .deep; few = t .few };
+      given = t .given ∙ ap length e;
+      written = t .written ∙ ap (λ ns. buffer ns out) e;
+    }
+
+-- the tables, test by test: row 3 applies or not, and so on
+
+abbrev openRows : Bool → Bool → Bool → ℕ
+openRows b₃ b₅ b₆ = pick b₃ 3 (pick b₅ 5 (pick b₆ 6 0))
+
+abbrev closeRows : Bool → Bool → Bool → ℕ
+closeRows b₃ none-open same = pick b₃ 3 (pick none-open 4 (pick same 0 4))
+
+module _ (q : Query) (d : Doc) (e : Option Stream.Event) (n : Numbers) (E : Elements) (N : Queue) (out : List ℕ) where
+  abbrev R : ℕ → After
+  R r = refusedWith r n E N out
+
+  open-table :
+      (b₃ b₅ b₆ b₇ : Bool) (a : After) → (b₅ ≡ false → b₆ ≡ false → b₇ ≡ false → Taken q d (actIf e d) out a) →
+      StepOwed q d e n E N out
+      (lowestOr false 2 (lowestOr b₃ 3 (lowestOr false 4 (lowestOr b₅ 5 (lowestOr b₆ 6 (lowestOr b₇ 7 none))))))
+      (pick (eqb (openRows b₃ b₅ b₆) 0) (pick b₇ (R 7) a) (R (openRows b₃ b₅ b₆)))
+  unfolding pick lowestOr
+  open-table true b₅ b₆ b₇ a h = refuses refl
+  open-table false true b₆ b₇ a h = refuses refl
+  open-table false false true b₇ a h = refuses refl
+  open-table false false false true a h = refuses refl
+  open-table false false false false a h = takes (h refl refl refl)
+
+  close-table :
+      (b₃ none-open same : Bool) (a : After) → (none-open ≡ false → Taken q d (actIf e d) out a) →
+      StepOwed q d e n E N out
+      (lowestOr false 2
+      (lowestOr b₃ 3 (lowestOr (not (not none-open && same)) 4 (lowestOr false 5 (lowestOr false 6 (lowestOr false 7 none))))))
+      (pick (eqb (closeRows b₃ none-open same) 0) a (R (closeRows b₃ none-open same)))
+  unfolding pick lowestOr
+  close-table true none-open same a h = refuses refl
+  close-table false true same a h = refuses refl
+  close-table false false true a h = takes (h refl)
+  close-table false false false a h = refuses refl
+
+some-open : (e : Doc) → (depth e ≡ 0 → ⊥) → T (isOpen e)
+unfolding depth isOpen
+some-open (done-row f) h = absurd (h refl)
+some-open (within p x e) h = tt
+
+module _ (q : Query) (d : Doc) (w : Within q d) (n : Numbers) (E : Elements) (N : Queue) (st : Stands q d n E N) (out : List ℕ) where
+  abbrev Owed : Option Stream.Event → After → Type 0
+  Owed e a = StepOwed q d e n E N out (lowest (stepRefusals q d e)) a
+
+  few : ltb mostHeld (n .held) ≡ false
+  few = le-ltb mostHeld (n .held) (st .few)
+
+  before : n .handed ≤ 16777215
+  before = omega (arith, handed-read q d n E N st, w .listing)
+
+  -- an open
+
+  over-is : (x : ℕ) → overIn (plan q) x (n .depth) (n .held) E N ≡ ltb mostHeld (length (held q (opened (record { name = x }) d)))
+  over-is x =
+      over-used (plan q) x n E N
+      ∙ ap (λ s. over mostHeld s (opening (plan q) x s)) (st .state)
+      ∙ quick-over q (w .admitted) (record { name = x }) d mostHeld (w .few)
+
+  open-rows : refuseOpen n ≡ openRows (finished d) (leb mostOpen (depth d)) (leb nodeLimit (count d))
+  unfolding refuseOpen pick
+  open-rows =
+      ap₂ (λ b k. pick b 3 (pick (leb mostOpen k) 5 (pick (leb nodeLimit (n .opened)) 6 (pick (ltb mostHeld (n .held)) 7 0))))
+      (ended-read q d n E N st) (depth-read q d n E N st)
+      ∙ ap₂ (λ k b. pick (finished d) 3 (pick (leb mostOpen (depth d)) 5 (pick (leb nodeLimit k) 6 (pick b 7 0)))) (opened-read q d n E N st) few
+
+  open-taken :
+      (x : ℕ) → leb mostOpen (depth d) ≡ false → leb nodeLimit (count d) ≡ false →
+      ltb mostHeld (length (held q (opened (record { name = x }) d))) ≡ false →
+      Taken q d (opened (record { name = x }) d) out (openTaken (plan q) x n E N out)
+  open-taken x e₅ e₆ e₇ =
+      let fits : OpenFits n =
+      record {
+        deep = omega (arith, leb-false mostOpen (depth d) e₅, depth-read q d n E N st);
+        few = omega (arith, leb-false nodeLimit (count d) e₆, opened-read q d n E N st);
+        held = st .few;
+      } in
+      taken-right q d (opened (record { name = x }) d) out (quickOpen (plan q) x (stateIn n E N)) (openTaken (plan q) x n E N out)
+      (open-takes (plan q) x n E N out (st .roomy) fits before (over-is x ∙ e₇))
+      (ap (λ s. quickOpen (plan q) x s .state) (st .state) ∙ quick-open q (w .admitted) (record { name = x }) d)
+      (ap (λ s. listed q d ++ quickOpen (plan q) x s .out) (st .state) ∙ quick-open-out q (w .admitted) (record { name = x }) d)
+
+  open-right : (x : ℕ) → Owed (some (Stream.opens x)) (onOpen (plan q) x n E N out)
+  unfolding onOpen lowest stepRefusals isBad isOpening closesWrong actIf Stream.act
+  open-right x =
+      subst (Owed (some (Stream.opens x)))
+      (sym
+      (ap₂ (λ r b. pick (eqb r 0) (pick b (refusedWith 7 n E N out) (openTaken (plan q) x n E N out)) (refusedWith r n E N out)) open-rows (over-is x)))
+      (open-table q d (some (Stream.opens x)) n E N out (finished d) (leb mostOpen (depth d)) (leb nodeLimit (count d))
+      (ltb mostHeld (length (held q (opened (record { name = x }) d)))) (openTaken (plan q) x n E N out) (open-taken x))
+
+  -- a close
+
+  close-rows : (x : ℕ) → refuseClose n E x ≡ closeRows (finished d) (eqb (n .depth) 0) (eqb (frameAt E (n .depth - 1) .name) x)
+  unfolding refuseClose pick
+  close-rows x =
+      let same : Bool = eqb (frameAt E (n .depth - 1) .name) x in
+      ap (λ b. pick b 3 (pick (eqb (n .depth) 0) 4 (pick (ltb mostOpen (n .depth)) 4 (pick same (pick (ltb mostHeld (n .held)) 7 0) 4))))
+      (ended-read q d n E N st)
+      ∙ ap₂ (λ b c. pick (finished d) 3 (pick (eqb (n .depth) 0) 4 (pick b 4 (pick same (pick c 7 0) 4)))) (le-ltb mostOpen (n .depth) (st .deep)) few
+
+  close-taken : eqb (n .depth) 0 ≡ false → Taken q d (closed d) out (closeTaken (plan q) n E N out)
+  close-taken z =
+      let p : n .depth ≡ 0 → ⊥ = eqb-false (n .depth) 0 z in
+      let some-is : T (isOpen d) = some-open d (λ e. p (depth-read q d n E N st ∙ e)) in
+      let fits : CloseFits n = record { some = positive (n .depth) p; deep = st .deep; held = st .few } in
+      taken-right q d (closed d) out (quickClose (plan q) (stateIn n E N)) (closeTaken (plan q) n E N out)
+      (close-takes (plan q) n E N (st .roomy) fits out before)
+      (ap (λ s. quickClose (plan q) s .state) (st .state) ∙ quick-close q (w .admitted) d some-is)
+      (ap (λ s. listed q d ++ quickClose (plan q) s .out) (st .state) ∙ quick-close-out q (w .admitted) d some-is)
+
+  close-right : (x : ℕ) → Owed (some (Stream.closes x)) (onClose (plan q) x n E N out)
+  unfolding onClose lowest stepRefusals isBad isOpening closesWrong actIf Stream.act
+  close-right x =
+      subst₂
+      (λ b a.
+      StepOwed q d (some (Stream.closes x)) n E N out
+      (lowestOr false 2 (lowestOr (finished d) 3 (lowestOr (not b) 4 (lowestOr false 5 (lowestOr false 6 (lowestOr false 7 none)))))) a)
+      (sym (ends-read q d n E N st x))
+      (sym (ap (λ r. pick (eqb r 0) (closeTaken (plan q) n E N out) (refusedWith r n E N out)) (close-rows x)))
+      (close-table q d (some (Stream.closes x)) n E N out (finished d) (eqb (n .depth) 0) (eqb (frameAt E (n .depth - 1) .name) x)
+      (closeTaken (plan q) n E N out) close-taken)
+
+  bad-right : Owed none (refusedWith 2 n E N out)
+  unfolding lowest lowestOr stepRefusals isBad
+  bad-right = refuses refl
+
+  any-right : (e : Option Stream.Event) → Owed e (step (plan q) (shown e) n E N out)
+  unfolding step
+  any-right none = bad-right
+  any-right (some (Stream.opens x)) = open-right x
+  any-right (some (Stream.closes x)) = close-right x
+
+  -- THE STEP
+  pub step-right :
+      (P : Plan) → P ≡ plan q → (e : Option Stream.Event) → StepOwed q d e n E N out (lowest (stepRefusals q d e)) (step P (shown e) n E N out)
+  step-right P p e = subst (λ K. Owed e (step K (shown e) n E N out)) (sym p) (any-right e)
