@@ -31,7 +31,7 @@ use Rattle.elements.specs.Elements.Laws.{possible-front}
 use Rattle.node.specs.Node.{mostHeld, Queue}
 use Rattle.nodes.specs.Nodes.{with, levelOf, numbers, Moved, movedBy, movedFrom, Handed, handedOut}
 use Rattle.numbers.specs.Numbers.{Numbers}
-use Rattle.step.specs.Step.{CloseFits, closeWith, closeOut, closeBy, closeTaken}
+use Rattle.step.specs.Step.{CloseFits, closeNumbers, movedOut, closeWith, closeOut, closeBy, closeTaken}
 use Rattle.right.specs.Lists.{shifted-took, shifted-length}
 use Rattle.right.specs.Used.{stateIn, Roomy, Takes, same-state}
 
@@ -168,7 +168,7 @@ module _ (P : Plan) (n : Numbers) (E : Elements) (N : Queue) (room : Roomy E N) 
     h = handedOut went left Q out
 
     taken-is : closeTaken P n E N out ≡ closeWith n E left went h
-    unfolding closeTaken
+    unfolding closeTaken movedOut
     taken-is = ap (closeBy P n E out) moved-is ∙ ap (closeOut n E out (record { held = left; queue = Q })) went-is
 
     gone : length (take went waiting) ≡ went
@@ -181,7 +181,7 @@ module _ (P : Plan) (n : Numbers) (E : Elements) (N : Queue) (room : Roomy E N) 
 
     with-takes :
         Takes (closes s (record { frames = take (n .depth - 1) (E .list); waiting = waiting; went = went })) (closeWith n E left went h) out
-    unfolding closes stateIn handedOut
+    unfolding closes stateIn handedOut closeNumbers
     with-takes =
         record {
           refusal = refl;

@@ -27,7 +27,7 @@ use Rattle.elements.specs.Elements as elements
 use Rattle.node.specs.Node.{mostHeld, Queue}
 use Rattle.nodes.specs.Nodes.{numbers, Joined, joined, handedOut}
 use Rattle.numbers.specs.Numbers.{Numbers}
-use Rattle.step.specs.Step.{OpenFits, overIn, goingOf, openWith, openBy, openedBy, openingIn, openTaken}
+use Rattle.step.specs.Step.{OpenFits, overIn, goingOf, openWith, openBy, openedBy, openingIn, openTaken, openNumbers}
 use Rattle.right.specs.Lists.{shifted-took, shifted-length, joined-took, joined-length}
 use Rattle.right.specs.Used.{stateIn, Roomy, Takes, same-state, opening-used, over-used}
 
@@ -157,7 +157,7 @@ module _ (P : Plan) (x : ℕ) (n : Numbers) (E : Elements) (N : Queue) (out : Li
   taken-is = ap (λ y. openBy n N out (openedBy (n .depth) E y)) (opening-used P x n E N)
 
   with-takes : Takes (quickOpen P x s) (openWith n (openedBy (n .depth) E o) j) out
-  unfolding quickOpen opens stateIn goingOf
+  unfolding quickOpen opens stateIn goingOf openNumbers
   with-takes =
       record {
         refusal = refl;
