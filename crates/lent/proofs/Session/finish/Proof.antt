@@ -1,0 +1,18 @@
+-- The two cases. Assumes nothing.
+use mathlib.Core.Path.{refl, ap}
+use Rattle.choice.specs.Pick.{pick-yes, pick-no}
+use Rattle.lent.specs.Told.{ended}
+use Rattle.lent.specs.Event.{finish}
+use Rattle.lent.proofs.Session.finish.Statement.{statement}
+use Rattle.lent.proofs.Session.finish.Tie as tie
+
+returns : tie.Need-returns
+unfolding finish
+returns c = ap ended (pick-yes _ _ _ _ (c .if1 .taken) refl)
+
+returns-2 : tie.Need-returns-2
+unfolding finish
+returns-2 c = ap ended (pick-no _ _ _ _ (c .if1 .left) refl)
+
+pub finish-spec : {M : Type 1} → statement M
+finish-spec = tie.close (tie.spec returns returns-2)

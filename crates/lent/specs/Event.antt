@@ -1,0 +1,125 @@
+-- What event and finish answer, for every session value and all lent room, reached or not, scribbled on or not.
+--
+--   Done                     an event's answer, the next session, and all that was lent, byte for byte
+--   refused n s E N out      a refusal: all as it was
+--   numbersOf s, withNumbers s n       the session's numbers; the same session with the numbers n
+--   settled s E N out a      what a step that came to a leaves in the room that is needed
+--   within s bytes E N out   an event on the room that is needed
+--   event s bytes E N out    an event, by its bytes, on any room
+--   toldAs, toldOf           the same with the answer in document 01's number and values (Told)
+--   EventGives s bytes E N out r E′ N′ out′      THE PROMISE of `event`: its result r, and all that was lent on return, are those
+--   finish s                 the nodes opened and handed out, or refusal 8
+--   FinishGives s r          THE PROMISE of `finish`: its result r stands for that
+--
+-- Assumes nothing. NOT here: what a step does (crate step), which bytes are which event (crate meaning, Record).
+pub mod Laws
+use Prim.Native.Nat.{ℕ}
+use mathlib.Core.Path.{_≡_}
+use mathlib.Core.Bool.{not}
+use mathlib.Core.List.{List, _++_}
+use mir.Val.{boolByte}
+use lib.Dec.{eqb, ltb}
+use lib.ListN.{length, take, drop}
+use Rattle.choice.specs.Pick.{pick}
+use Rattle.meaning.specs.Answer as meaning
+use Rattle.meaning.specs.Record.{eventOf}
+use Rattle.records.specs.Read.{shown}
+use Rattle.words.specs.Records.{laid}
+use Rattle.element.specs.Element as element
+use Rattle.element.specs.Element.{elementsRoom, elementsIn}
+use Rattle.node.specs.Node as node
+use Rattle.node.specs.Node.{nodesRoom, queueIn}
+use Rattle.numbers.specs.Numbers as numbers
+use Rattle.numbers.specs.Numbers.{Numbers}
+use Rattle.plan_bytes.specs.Kept.{keptIn}
+use Rattle.step.specs.Step.{outputNeeded, After, step}
+use Rattle.lent.specs.declared.Session.{Session}
+use Rattle.lent.specs.declared.Answer.{Answer}
+use Rattle.lent.specs.declared.Answer.the-variants.{Refused, Taken}
+use Rattle.lent.specs.declared.Step.{Step}
+use Rattle.lent.specs.declared.Finish as finished
+use Rattle.lent.specs.declared.Finish.the-variants as finishing
+use Rattle.lent.specs.Begin.{shortRoom}
+use Rattle.lent.specs.Told.{told, ended}
+
+pub record Done : Type 0 where
+  pub answer : Answer
+  pub session : Session
+  pub elements : List ℕ
+  pub nodes : List ℕ
+  pub out : List ℕ
+
+abbrev pub refused : ℕ → Session → List ℕ → List ℕ → List ℕ → Done
+refused n s E N out = record { answer = Refused n; session = s; elements = E; nodes = N; out = out }
+
+abbrev pub numbersOf : Session → Numbers
+numbersOf s = numbers.numbersOf (s .depth) (s .held) (s .opened) (s .handed) (boolByte (s .ended))
+
+abbrev pub withNumbers : Session → Numbers → Session
+withNumbers s n =
+    record {
+      kept = s .kept;
+      depth = n .depth;
+      held = n .held;
+      opened = n .opened;
+      handed = n .handed;
+      ended = not (eqb (n .ended) 0);
+    }
+
+-- "A refused call leaves the lent room as it was, too"
+unfoldable pub settled : Session → List ℕ → List ℕ → List ℕ → After → Done
+settled s E N out a =
+    pick (eqb (a .refusal) 0)
+    (record {
+      answer = Taken (a .given);
+      session = withNumbers s (a .numbers);
+      elements = laid element.shape (a .elements);
+      nodes = laid node.shape (a .nodes);
+      out = a .out;
+    })
+    (refused (a .refusal) s E N out)
+
+unfoldable pub within : Session → List ℕ → List ℕ → List ℕ → List ℕ → Done
+within s bytes E N out = settled s E N out (step (keptIn (s .kept)) (shown (eventOf bytes)) (numbersOf s) (elementsIn E) (queueIn N) out)
+
+-- the bytes past the needed ones are never touched
+abbrev pub beside : List ℕ → List ℕ → Done → Done
+beside E N d =
+    record {
+      answer = d .answer;
+      session = d .session;
+      elements = d .elements ++ drop elementsRoom E;
+      nodes = d .nodes ++ drop nodesRoom N;
+      out = d .out;
+    }
+
+-- "1: output buffer under 4,100 bytes", "15 comes directly after 1 and before all others"
+unfoldable pub event : Session → List ℕ → List ℕ → List ℕ → List ℕ → Done
+event s bytes E N out =
+    pick (ltb (length out) outputNeeded) (refused 1 s E N out)
+    (pick (shortRoom E N) (refused 15 s E N out)
+    (beside E N (within s bytes (take elementsRoom E) (take nodesRoom N) out)))
+
+-- the same in document 01's numbers and values
+pub record ToldDone : Type 0 where
+  pub answer : meaning.Answer
+  pub session : Session
+  pub elements : List ℕ
+  pub nodes : List ℕ
+  pub out : List ℕ
+
+abbrev pub toldAs : Answer → Session → List ℕ → List ℕ → List ℕ → ToldDone
+toldAs a s E N out = record { answer = told a out; session = s; elements = E; nodes = N; out = out }
+
+abbrev pub toldOf : Done → ToldDone
+toldOf d = toldAs (d .answer) (d .session) (d .elements) (d .nodes) (d .out)
+
+abbrev pub EventGives : Session → List ℕ → List ℕ → List ℕ → List ℕ → Step → List ℕ → List ℕ → List ℕ → Type 0
+EventGives s bytes E N out r E′ N′ out′ = toldAs (r .answer) (r .session) E′ N′ out′ ≡ toldOf (event s bytes E N out)
+
+-- "8: no document element yet, or it is still open"
+unfoldable pub finish : Session → finished.Finish
+finish s = pick (s .ended) (finishing.Ended (s .opened) (s .handed)) (finishing.Refused 8)
+
+abbrev pub FinishGives : Session → finished.Finish → Type 0
+FinishGives s r = ended r ≡ ended (finish s)

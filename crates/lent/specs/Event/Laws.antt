@@ -1,0 +1,145 @@
+-- What the calls of an event give together, and that the promises of event and finish allow one result.
+--
+--   with-parts                         the numbers one by one
+--   within-refused, within-taken       an event that is refused, and one that is taken, on the room that is needed
+--   event-short, event-small, event-parts       refusal 1; refusal 15; any other answer, by the parts of the room that were lent on
+--   event-is, finish-is                a result that the promise allows is the model's
+--   event-one, finish-one              two results that the promise allows are equal, and so is all that was lent
+--
+-- The session and what a step came to are given explicitly: they are too large to be found. Assumes nothing.
+use Prim.Native.Nat.{ℕ, _≤_, _<_}
+use mathlib.Core.Path.{_≡_, refl, sym, ap, ap₂, _∙_}
+use mathlib.Core.Bool.{true, false, not}
+use mathlib.Core.List.{List, _++_}
+use lib.Dec.{eqb}
+use lib.ListN.{length, take, drop}
+use borrow.Author.Tests.{eq-eqb, ne-eqb, lt-ltb, le-ltb}
+use Rattle.choice.specs.Pick.{pick-yes, pick-no}
+use Rattle.meaning.specs.Record.{eventOf}
+use Rattle.records.specs.Read.{shown}
+use Rattle.words.specs.Words.{Bytes}
+use Rattle.words.specs.Records.{laid}
+use Rattle.element.specs.Element as element
+use Rattle.element.specs.Element.{elementsRoom, elementsIn}
+use Rattle.element.specs.Element.Laws.{elements-laid, elements-same}
+use Rattle.node.specs.Node as node
+use Rattle.node.specs.Node.{nodesRoom, queueIn}
+use Rattle.node.specs.Node.Laws.{nodes-laid, nodes-same}
+use Rattle.numbers.specs.Numbers.{Numbers, numbersIn}
+use Rattle.plan_bytes.specs.Kept.{keptIn}
+use Rattle.step.specs.Step.{outputNeeded, After, after, step}
+use Rattle.step.specs.Step.Laws.{refused-same}
+use Rattle.lent.specs.declared.Session.{Session}
+use Rattle.lent.specs.declared.Answer.{Answer}
+use Rattle.lent.specs.declared.Answer.the-variants.{Refused, Taken}
+use Rattle.lent.specs.declared.Step.{Step}
+use Rattle.lent.specs.declared.Finish as finished
+use Rattle.lent.specs.Begin.{shortRoom}
+use Rattle.lent.specs.Event.{Done, refused, numbersOf, withNumbers, settled, within, beside, event, ToldDone, toldAs, toldOf, EventGives, finish, FinishGives}
+use Rattle.lent.specs.Told.{told, told-one, ended-one}
+
+pub with-parts :
+    (s : Session) (n : Numbers) (depth held opened handed ended : ℕ) → depth ≡ n .depth → held ≡ n .held → opened ≡ n .opened → handed ≡ n .handed →
+    ended ≡ n .ended →
+    _≡_ {A = Session} (record { kept = s .kept; depth = depth; held = held; opened = opened; handed = handed; ended = not (eqb ended 0) }) (withNumbers s n)
+with-parts s n depth held opened handed ended e₁ e₂ e₃ e₄ e₅ =
+    λ i. record { kept = s .kept; depth = e₁ i; held = e₂ i; opened = e₃ i; handed = e₄ i; ended = not (eqb (e₅ i) 0) }
+
+-- on the room that is needed; E′ and N′ are what it holds on return
+module _ (s : Session) (bytes E N out E′ N′ out′ : List ℕ) (refusal given : ℕ) (n n′ : Numbers) (longE : length E ≡ elementsRoom)
+    (longN : length N ≡ nodesRoom) (longE′ : length E′ ≡ elementsRoom) (longN′ : length N′ ≡ nodesRoom) (bE : Bytes E) (bN : Bytes N) (bE′ : Bytes E′)
+    (bN′ : Bytes N′) (laid-as : n ≡ numbersOf s)
+    (stepped : after refusal given n′ (elementsIn E′) (queueIn N′) out′ ≡ step (keptIn (s .kept)) (shown (eventOf bytes)) n (elementsIn E) (queueIn N) out) where
+  whole : after refusal given n′ (elementsIn E′) (queueIn N′) out′ ≡ step (keptIn (s .kept)) (shown (eventOf bytes)) (numbersOf s) (elementsIn E) (queueIn N) out
+  whole = stepped ∙ ap (λ m. step (keptIn (s .kept)) (shown (eventOf bytes)) m (elementsIn E) (queueIn N) out) laid-as
+
+  pub within-refused :
+      (refusal ≡ 0 → ⊥) →
+      _≡_ {A = Done} (record { answer = Refused refusal; session = s; elements = E′; nodes = N′; out = out′ }) (within s bytes E N out)
+  unfolding within settled
+  within-refused f =
+      let k = refused-same _ _ _ _ _ _ _ whole f in
+      same (elements-same E′ E longE′ longE bE′ bE (k .0)) (nodes-same N′ N longN′ longN bN′ bN (k .1 .0)) (k .1 .1)
+      ∙ pick-no _ _ _ _ (ne-eqb refusal 0 f) refl
+      ∙ ap (settled s E N out) whole
+    where
+      same : {A A′ B B′ C C′ : List ℕ} → A ≡ A′ → B ≡ B′ → C ≡ C′ →
+          _≡_ {A = Done} (record { answer = Refused refusal; session = s; elements = A; nodes = B; out = C }) (refused refusal s A′ B′ C′)
+      same p q r = λ i. record { answer = Refused refusal; session = s; elements = p i; nodes = q i; out = r i }
+
+  pub within-taken :
+      (t : Session) → refusal ≡ 0 → t ≡ withNumbers s n′ →
+      _≡_ {A = Done} (record { answer = Taken given; session = t; elements = E′; nodes = N′; out = out′ }) (within s bytes E N out)
+  unfolding within settled
+  within-taken t z et =
+      same et (sym (elements-laid E′ longE′ bE′)) (sym (nodes-laid N′ longN′ bN′))
+      ∙ pick-yes _ _ _ _ (eq-eqb refusal 0 z) refl
+      ∙ ap (settled s E N out) whole
+    where
+      same : {u v : Session} {A A′ B B′ : List ℕ} → u ≡ v → A ≡ A′ → B ≡ B′ →
+          _≡_ {A = Done} (record { answer = Taken given; session = u; elements = A; nodes = B; out = out′ })
+          (record { answer = Taken given; session = v; elements = A′; nodes = B′; out = out′ })
+      same p q r = λ i. record { answer = Taken given; session = p i; elements = q i; nodes = r i; out = out′ }
+
+-- on any room
+
+module _ (s : Session) (bytes E N out : List ℕ) where
+  pub event-short : length out < outputNeeded → toldAs (Refused 1) s E N out ≡ toldOf (event s bytes E N out)
+  unfolding event
+  event-short h = ap (λ (d : Done). toldOf d) (pick-yes _ (refused 1 s E N out) _ _ (lt-ltb _ _ h) refl)
+
+  pub event-small : outputNeeded ≤ length out → shortRoom E N ≡ true → toldAs (Refused 15) s E N out ≡ toldOf (event s bytes E N out)
+  unfolding event
+  event-small h k =
+      ap (λ (d : Done). toldOf d) (pick-no _ (refused 15 s E N out) _ _ (le-ltb _ _ h) (pick-yes _ (refused 15 s E N out) _ _ k refl))
+
+  event-within :
+      (d : Done) (E′ N′ : List ℕ) → outputNeeded ≤ length out → shortRoom E N ≡ false → d ≡ within s bytes (take elementsRoom E) (take nodesRoom N) out →
+      E′ ≡ d .elements ++ drop elementsRoom E → N′ ≡ d .nodes ++ drop nodesRoom N →
+      toldAs (d .answer) (d .session) E′ N′ (d .out) ≡ toldOf (event s bytes E N out)
+  unfolding event
+  event-within d E′ N′ h k e eE eN =
+      ap₂ (λ x y. toldAs (d .answer) (d .session) x y (d .out)) eE eN
+      ∙ ap (λ (y : Done). toldOf y)
+      (pick-no _ (beside E N d) _ _ (le-ltb _ _ h) (pick-no _ (beside E N d) _ _ k (ap (beside E N) e)))
+
+-- by the parts of the room that were lent on: k and l are how long they are
+pub event-parts :
+    (s : Session) (bytes E N out : List ℕ) (a : Answer) (t : Session) (A B out′ : List ℕ) (k l : ℕ) → elementsRoom ≡ k → nodesRoom ≡ l →
+    outputNeeded ≤ length out → shortRoom E N ≡ false →
+    _≡_ {A = Done} (record { answer = a; session = t; elements = A; nodes = B; out = out′ }) (within s bytes (take k E) (take l N) out) →
+    toldAs a t (A ++ drop k E) (B ++ drop l N) out′ ≡ toldOf (event s bytes E N out)
+event-parts s bytes E N out a t A B out′ k l ek el h f e =
+    event-within s bytes E N out (record { answer = a; session = t; elements = A; nodes = B; out = out′ }) (A ++ drop k E) (B ++ drop l N) h f
+    (e ∙ ap₂ (λ i j. within s bytes (take i E) (take j N) out) (sym ek) (sym el)) (ap (λ i. A ++ drop i E) (sym ek)) (ap (λ i. B ++ drop i N) (sym el))
+
+-- what stands for the same is the same: the case of the enum, by what it tells
+told-same :
+    (a a′ : Answer) (s s′ : Session) (E E′ N N′ o o′ : List ℕ) → toldAs a s E N o ≡ toldAs a′ s′ E′ N′ o′ →
+    (a ≡ a′) × ((s ≡ s′) × ((E ≡ E′) × ((N ≡ N′) × (o ≡ o′))))
+told-same a a′ s s′ E E′ N N′ o o′ e =
+    let eo : o ≡ o′ = ap (λ (d : ToldDone). d .out) e in (
+      told-one a a′ o′ (ap (told a) (sym eo) ∙ ap (λ (d : ToldDone). d .answer) e),
+      (ap (λ (d : ToldDone). d .session) e, (ap (λ (d : ToldDone). d .elements) e, (ap (λ (d : ToldDone). d .nodes) e, eo))),
+    )
+
+pub event-is :
+    (s : Session) (bytes E N out : List ℕ) (r : Step) (E′ N′ out′ : List ℕ) → EventGives s bytes E N out r E′ N′ out′ →
+    _≡_ {A = Done} (record { answer = r .answer; session = r .session; elements = E′; nodes = N′; out = out′ }) (event s bytes E N out)
+event-is s bytes E N out r E′ N′ out′ g =
+    let d : Done = event s bytes E N out in
+    let e = told-same (r .answer) (d .answer) (r .session) (d .session) E′ (d .elements) N′ (d .nodes) out′ (d .out) g in
+    λ i. record { answer = e .0 i; session = e .1 .0 i; elements = e .1 .1 .0 i; nodes = e .1 .1 .1 .0 i; out = e .1 .1 .1 .1 i }
+
+pub event-one :
+    (s : Session) (bytes E N out : List ℕ) (r r′ : Step) (A A′ B B′ o o′ : List ℕ) → EventGives s bytes E N out r A B o →
+    EventGives s bytes E N out r′ A′ B′ o′ → (r ≡ r′) × ((A ≡ A′) × ((B ≡ B′) × (o ≡ o′)))
+event-one s bytes E N out r r′ A A′ B B′ o o′ g g′ =
+    let e = told-same (r .answer) (r′ .answer) (r .session) (r′ .session) A A′ B B′ o o′ (g ∙ sym g′) in
+    (ap₂ (λ (a : Answer) (t : Session). record { answer = a; session = t }) (e .0) (e .1 .0), e .1 .1)
+
+pub finish-is : (s : Session) (r : finished.Finish) → FinishGives s r → r ≡ finish s
+finish-is s r g = ended-one r (finish s) g
+
+pub finish-one : (s : Session) (r r′ : finished.Finish) → FinishGives s r → FinishGives s r′ → r ≡ r′
+finish-one s r r′ g g′ = ended-one r r′ (g ∙ sym g′)

@@ -1,0 +1,204 @@
+// A session: one event at a time in, the selected nodes out as soon as they are certain. The room for the open elements and the waiting nodes is lent with
+// each event; the session, by value, keeps only its numbers and what it keeps of its query.
+ghost use mathlib.Core.Path.{_≡_};
+ghost use Prim.Native.Nat.{_≤_};
+ghost use lib.ListN.{length};
+ghost use Rattle.element.specs.Element.{elementsRoom};
+ghost use Rattle.node.specs.Node.{nodesRoom};
+ghost use Rattle.numbers.specs.Numbers.{numbersRoom, numbersIn};
+ghost use Rattle.step.specs.Step.{outputNeeded};
+ghost use Rattle.lent.specs.Begin.{fresh, BeginGives};
+ghost use Rattle.lent.specs.Event.{numbersOf, withNumbers, within, EventGives, FinishGives};
+use plan::Plan;
+use query::QueryAnswer;
+
+pub struct Session {
+    // What is kept of the query (crate plan_bytes).
+    pub kept: [u8; 288],
+    // How many elements are open, and how many nodes wait.
+    pub depth: u32,
+    pub held: u32,
+    // How many nodes were opened, and how many handed out.
+    pub opened: u32,
+    pub handed: u32,
+    // "the document element has been closed"
+    pub ended: bool,
+}
+
+// "An event's answer is either a refusal number or a count of nodes handed out"
+pub enum Answer {
+    Refused(u8),
+    Taken(u32),
+}
+
+pub struct Step {
+    pub answer: Answer,
+    pub session: Session,
+}
+
+// "Finish answers the number of nodes opened and the number handed out"
+pub enum Finish {
+    Refused(u8),
+    Ended(u32, u32),
+}
+
+// The answer to begin: the query's, or that the lent room is too small.
+pub enum Start {
+    Begun,
+    ShortRoom,
+    BadLength,
+    BadStep(u8),
+}
+
+// "beside a refused query's number stands one fixed blank session"
+pub struct Begun {
+    pub answer: Start,
+    pub session: Session,
+}
+
+// A session at the start of its stream.
+fn fresh(plan: Plan) -> Session
+    ensures { λ r. ⌜ r ≡ fresh plan ⌝ }
+{
+    let kept = plan_bytes::pack(plan);
+    Session {
+        kept: kept,
+        depth: 0,
+        held: 0,
+        opened: 0,
+        handed: 0,
+        ended: false,
+    }
+}
+
+// A session for a query. Nothing is asked of the content of the lent room, and none of it is read or written.
+pub fn begin(query: &[u8], elements: &[u8], nodes: &[u8]) -> Begun
+    ensures { λ r. ⌜ BeginGives (now (query .entry)) (now (elements .entry)) (now (nodes .entry)) r ⌝ }
+{
+    let blank = fresh(plan::plan_of(&query[..0]));
+    if elements.len() < limits::ELEMENTS_ROOM {
+        return Begun {
+            answer: Start::ShortRoom,
+            session: blank,
+        };
+    }
+    if nodes.len() < limits::NODES_ROOM {
+        return Begun {
+            answer: Start::ShortRoom,
+            session: blank,
+        };
+    }
+    let answer = query::check(query);
+    match answer {
+        QueryAnswer::Admitted => {
+            let session = fresh(plan::plan_of(query));
+            Begun {
+                answer: Start::Begun,
+                session: session,
+            }
+        }
+        QueryAnswer::BadLength => Begun {
+            answer: Start::BadLength,
+            session: blank,
+        },
+        QueryAnswer::BadStep(k) => Begun {
+            answer: Start::BadStep(k),
+            session: blank,
+        },
+    }
+}
+
+impl Session {
+    // The session's numbers in bytes.
+    fn lay(self, numbers: &mut [u8])
+        requires { ⌜ length (now numbers) ≡ numbersRoom ⌝ }
+        ensures { λ r. ⌜ numbersIn (now (numbers .exit)) ≡ numbersOf self ⌝ }
+    {
+        numbers::write(
+            numbers,
+            self.depth,
+            self.held,
+            self.opened,
+            self.handed,
+            self.ended as u32,
+        );
+    }
+
+    // The same session with the numbers in bytes.
+    fn with(self, numbers: &[u8]) -> Session
+        requires { ⌜ length (now numbers) ≡ numbersRoom ⌝ }
+        ensures { λ r. ⌜ r ≡ withNumbers self (numbersIn (now (numbers .entry))) ⌝ }
+    {
+        let kept = self.kept;
+        Session {
+            kept: kept,
+            depth: numbers::get(numbers, numbers::DEPTH),
+            held: numbers::get(numbers, numbers::HELD),
+            opened: numbers::get(numbers, numbers::OPENED),
+            handed: numbers::get(numbers, numbers::HANDED),
+            ended: numbers::get(numbers, numbers::ENDED) != 0,
+        }
+    }
+
+    // An event on the room that is needed, with enough of a buffer.
+    fn within(self, bytes: &[u8], elements: &mut [u8], nodes: &mut [u8], out: &mut [u8]) -> Step
+        requires { ⌜ (length (now elements) ≡ elementsRoom) × ((length (now nodes) ≡ nodesRoom) × (outputNeeded ≤ length (now out))) ⌝ }
+        ensures { λ r. ⌜ record { answer = r .answer; session = r .session; elements = now (elements .exit); nodes = now (nodes .exit); out = now (out .exit) } ≡ within self (now (bytes .entry)) (now (elements .entry)) (now (nodes .entry)) (now (out .entry)) ⌝ }
+    {
+        let kept = self.kept;
+        let mut numbers = [0u8; 20];
+        self.lay(&mut numbers);
+        let r = step::step(&kept, bytes, &mut numbers, elements, nodes, out);
+        if r.refusal != 0 {
+            return Step {
+                answer: Answer::Refused(r.refusal),
+                session: self,
+            };
+        }
+        let session = self.with(&numbers);
+        Step {
+            answer: Answer::Taken(r.given),
+            session: session,
+        }
+    }
+
+    // Takes one event. Longer buffers are fine: their bytes past the needed ones are never touched.
+    pub fn event(self, bytes: &[u8], elements: &mut [u8], nodes: &mut [u8], out: &mut [u8]) -> Step
+        ensures { λ r. ⌜ EventGives self (now (bytes .entry)) (now (elements .entry)) (now (nodes .entry)) (now (out .entry)) r (now (elements .exit)) (now (nodes .exit)) (now (out .exit)) ⌝ }
+    {
+        if out.len() < limits::OUTPUT {
+            return Step {
+                answer: Answer::Refused(limits::SHORT_OUTPUT),
+                session: self,
+            };
+        }
+        if elements.len() < limits::ELEMENTS_ROOM {
+            return Step {
+                answer: Answer::Refused(limits::SHORT_ROOM),
+                session: self,
+            };
+        }
+        if nodes.len() < limits::NODES_ROOM {
+            return Step {
+                answer: Answer::Refused(limits::SHORT_ROOM),
+                session: self,
+            };
+        }
+        self.within(
+            bytes,
+            &mut elements[..limits::ELEMENTS_ROOM],
+            &mut nodes[..limits::NODES_ROOM],
+            out,
+        )
+    }
+
+    // "it changes nothing and may be asked again"
+    pub fn finish(self) -> Finish
+        ensures { λ r. ⌜ FinishGives self r ⌝ }
+    {
+        if self.ended {
+            return Finish::Ended(self.opened, self.handed);
+        }
+        Finish::Refused(limits::UNFINISHED)
+    }
+}
