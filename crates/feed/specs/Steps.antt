@@ -1,0 +1,48 @@
+-- A block of steps.
+--
+--   Seat, seat n E N         what a step is taken at: the numbers and both rooms
+--   stepAt P s bytes out     one step (crate step), as what one event comes to
+--   FeedGives P s es out r s′ out′      THE PROMISE of `feed`: its result r, the numbers and rooms s′ and the buffer out′ on return are what single steps come to
+--   feed-one                 two results that it allows are equal, and so is all that was lent
+--
+-- Assumes nothing.
+use Prim.Native.Nat.{ℕ, _/_}
+use mathlib.Core.Path.{_≡_, sym, ap, _∙_}
+use mathlib.Core.List.{List}
+use lib.ListN.{length}
+use Rattle.meaning.specs.Record.{eventOf}
+use Rattle.records.specs.Read.{shown}
+use Rattle.plan.specs.Plan.{Plan}
+use Rattle.element.specs.Element.{Elements}
+use Rattle.node.specs.Node.{Queue}
+use Rattle.numbers.specs.Numbers.{Numbers}
+use Rattle.step.specs.Step.{After, step}
+use Rattle.feed.specs.declared.Fed as struct
+use Rattle.feed.specs.Fed.{Came, Fed, fed}
+
+pub record Seat : Type 0 where
+  pub numbers : Numbers
+  pub elements : Elements
+  pub nodes : Queue
+
+abbrev pub seat : Numbers → Elements → Queue → Seat
+seat n E N = record { numbers = n; elements = E; nodes = N }
+
+abbrev pub cameTo : After → Came Seat
+cameTo a = record { refusal = a .refusal; given = a .given; seat = seat (a .numbers) (a .elements) (a .nodes); out = a .out }
+
+unfoldable pub stepAt : Plan → Seat → List ℕ → List ℕ → Came Seat
+stepAt P s bytes out = cameTo (step P (shown (eventOf bytes)) (s .numbers) (s .elements) (s .nodes) out)
+
+abbrev pub FeedGives : Plan → Seat → List ℕ → List ℕ → struct.Fed → Seat → List ℕ → Type 0
+FeedGives P s es out r s′ out′ =
+    record { seat = s′; taken = r .taken; listed = r .listed; refusal = r .refusal; out = out′ } ≡ fed (stepAt P) (length es / 8) s es out
+
+pub feed-one :
+    (P : Plan) (s : Seat) (es out : List ℕ) (r r′ : struct.Fed) (t t′ : Seat) (o o′ : List ℕ) → FeedGives P s es out r t o →
+    FeedGives P s es out r′ t′ o′ → (r ≡ r′) × ((t ≡ t′) × (o ≡ o′))
+feed-one P s es out r r′ t t′ o o′ g g′ =
+    let e = g ∙ sym g′ in (
+      λ i. record { taken = ap (λ (f : Fed Seat). f .taken) e i; listed = ap (λ (f : Fed Seat). f .listed) e i; refusal = ap (λ (f : Fed Seat). f .refusal) e i },
+      (ap (λ (f : Fed Seat). f .seat) e, ap (λ (f : Fed Seat). f .out) e),
+    )
