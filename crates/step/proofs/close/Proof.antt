@@ -38,16 +38,16 @@ cast-held : tie.Need-cast-held
 cast-held c = search needs
 
 move-out-requires : tie.Need-move-out-requires
-move-out-requires c κs = let at-get = c .before .before .before in
-    let at-if1 = at-get .before .before in
-    let at-refuse-close = at-if1 .before in
-    let fits = at-refuse-close .refuse-close .ensures .1 (at-if1 .if1 .left) in (
-      search needs,
-      (
+move-out-requires c κs = (
+  search needs,
+  let at-get = c .before .before .before in
+      let at-if1 = at-get .before .before in
+      let at-refuse-close = at-if1 .before in
+      let fits = at-refuse-close .refuse-close .ensures .1 (at-if1 .if1 .left) in (
         omega (arith, at-get .get .ensures, fits .some),
         (omega (arith, at-get .get .ensures, fits .deep), omega (arith, c .before .get2 .ensures, fits .held)),
       ),
-    )
+)
 
 sub-front-if : tie.Need-sub-front-if
 sub-front-if c = let at-get = c .before .before .before .before .before .before in
@@ -57,32 +57,41 @@ sub-front-if c = let at-get = c .before .before .before .before .before .before 
     omega (arith, at-get .get .ensures, fits .some)
 
 front-if-requires : tie.Need-front-if-requires
-front-if-requires c κs = let at-move-out = c .before .before .before in
-    let at-get2 = at-move-out .before .before in
-    let at-get = at-get2 .before .before in
-    let at-if1 = at-get .before .before in
-    let at-refuse-close = at-if1 .before in
-    let fits = at-refuse-close .refuse-close .ensures .1 (at-if1 .if1 .left) in (
-      (search needs, (search needs, omega (arith, at-get .get .ensures, fits .deep))),
-      (search needs, omega (arith, at-move-out .move-out .ensures .1, at-get2 .get2 .ensures, fits .held)),
-    )
+front-if-requires c κs = (
+  (
+    search needs,
+    (
+      search needs,
+      let at-get = c .before .before .before .before .before .before .before in
+          let at-if1 = at-get .before .before in
+          omega (arith, at-get .get .ensures, at-if1 .before .refuse-close .ensures .1 (at-if1 .if1 .left) .deep),
+    ),
+  ),
+  (
+    search needs,
+    let at-move-out = c .before .before .before in
+        let at-get2 = at-move-out .before .before in
+        let at-if1 = at-get2 .before .before .before .before in
+        omega (arith, at-move-out .move-out .ensures .1, at-get2 .get2 .ensures, at-if1 .before .refuse-close .ensures .1 (at-if1 .if1 .left) .held),
+  ),
+)
 
 hand-out-requires : tie.Need-hand-out-requires
-hand-out-requires c κs = let at-move-out = c .before .before .before .before .before .before in
-    let at-get2 = at-move-out .before .before in
-    let at-if1 = at-get2 .before .before .before .before in
-    let at-refuse-close = at-if1 .before in
-    let start = at-refuse-close .before .before .before .before .before .before .before in
-    let fits = at-refuse-close .refuse-close .ensures .1 (at-if1 .if1 .left) in (
-      search needs,
-      (
+hand-out-requires c κs = (
+  search needs,
+  let at-move-out = c .before .before .before .before .before .before in
+      let at-get2 = at-move-out .before .before in
+      let at-if1 = at-get2 .before .before .before .before in
+      let at-refuse-close = at-if1 .before in
+      let start = at-refuse-close .before .before .before .before .before .before .before in
+      let fits = at-refuse-close .refuse-close .ensures .1 (at-if1 .if1 .left) in (
         c .before .before .front-if .ensures .1,
         (
           omega (arith, at-move-out .move-out .ensures .1, at-get2 .get2 .ensures, fits .held),
           omega (arith, output-is, at-move-out .move-out .ensures .1, at-get2 .get2 .ensures, fits .held, start .pre .1 .1 .1),
         ),
       ),
-    )
+)
 
 sub-count-close : tie.Need-sub-count-close
 sub-count-close c = c .before .before .before .before .before .before .before .before .front-if .ensures .1

@@ -40,11 +40,14 @@ cast-held : tie.Need-cast-held
 cast-held c = search needs
 
 full-requires : tie.Need-full-requires
-full-requires c κs = let at-get = c .before .before .before .before in
-    let at-if1 = at-get .before .before in
-    let at-refuse-open = at-if1 .before in
-    let fits = at-refuse-open .refuse-open .ensures .1 (at-if1 .if1 .left) in
-    (search needs, (omega (arith, at-get .get .ensures, fits .deep), omega (arith, c .before .before .get2 .ensures, fits .held)))
+full-requires c κs = (
+  search needs,
+  let at-get = c .before .before .before .before in
+      let at-if1 = at-get .before .before in
+      let at-refuse-open = at-if1 .before in
+      let fits = at-refuse-open .refuse-open .ensures .1 (at-if1 .if1 .left) in
+      (omega (arith, at-get .get .ensures, fits .deep), omega (arith, c .before .before .get2 .ensures, fits .held)),
+)
 
 refused-requires-2 : tie.Need-refused-requires-2
 refused-requires-2 c κs = search needs
@@ -71,12 +74,15 @@ returns-2 c = let at-get2 = c .before .before .before .before .before in
     (c .before .before .full .ensures) (c .before .if2 .taken)
 
 opening-requires : tie.Need-opening-requires
-opening-requires c κs = let at-get2 = c .before .before .before .before .before .before in
-    let at-get = at-get2 .before .before in
-    let at-if1 = at-get .before .before in
-    let at-refuse-open = at-if1 .before in
-    let fits = at-refuse-open .refuse-open .ensures .1 (at-if1 .if1 .left) in
-    (search needs, (omega (arith, at-get .get .ensures, fits .deep), omega (arith, at-get2 .get2 .ensures, fits .held)))
+opening-requires c κs = (
+  search needs,
+  let at-get2 = c .before .before .before .before .before .before in
+      let at-get = at-get2 .before .before in
+      let at-if1 = at-get .before .before in
+      let at-refuse-open = at-if1 .before in
+      let fits = at-refuse-open .refuse-open .ensures .1 (at-if1 .if1 .left) in
+      (omega (arith, at-get .get .ensures, fits .deep), omega (arith, at-get2 .get2 .ensures, fits .held)),
+)
 
 get-requires-3 : tie.Need-get-requires-3
 get-requires-3 c κs = search needs
