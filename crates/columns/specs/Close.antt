@@ -18,13 +18,13 @@ use lib.Dec.{eqb, ltb}
 use lib.ListN.{length, getD, take, drop, length-append, length-map, length-drop, List·getD-append}
 use lib.Seq.{length-take-le}
 use borrow.Author.Tests.{lt-ltb, le-ltb}
-use Rattle.engine.specs.Every.{Every, eNil, eCons, every-left, every-append}
-use Rattle.engine.specs.Engine.{keepIf, keep}
+use Rattle.engine_old.specs.Every.{Every, eNil, eCons, every-left, every-append}
+use Rattle.engine_old.specs.Engine.{keepIf, keep}
 use Rattle.plan.specs.Plan as Engine
 use Rattle.plan.specs.Planned.{columns}
-use Rattle.engine.specs.Quick as Quick
-use Rattle.engine.specs.Quick.{Frame, Waiting, State, metAt, possAt, wentIf, Cut, cut, stay, closingFrom, closingAt, closing, closes, quickClose}
-use Rattle.engine.specs.Quick.Lists.{cut-append}
+use Rattle.engine_old.specs.Quick as Quick
+use Rattle.engine_old.specs.Quick.{Frame, Waiting, State, metAt, possAt, wentIf, Cut, cut, stay, closingFrom, closingAt, closing, closes, quickClose}
+use Rattle.engine_old.specs.Quick.Lists.{cut-append}
 use Rattle.stack.specs.Frames.{popped}
 use Rattle.queue.specs.Loops.{suffixFrom, frontIf, Moved}
 use Rattle.queue.specs.Queue.{handedOut, closedUp}

@@ -19,10 +19,10 @@ use lib.Seq.{drop-drop, getD-drop}
 use borrow.Author.Tests.{eq-eqb, ne-eqb, le-ltb}
 use Rattle.choice.specs.Pick.{pick, pick-true, pick-false, pick-ap}
 use Rattle.sets.specs.Set.{overlaps}
-use Rattle.engine.specs.Every.{Every, eNil, eCons, every-map}
+use Rattle.engine_old.specs.Every.{Every, eNil, eCons, every-map}
 use Rattle.plan.specs.Plan as Plan
 use Rattle.plan.specs.Plan.{Plan}
-use Rattle.engine.specs.Quick.{Frame, Waiting, metAt, sureAt, certainIf, certain, countedIf, counted, cutIf, cut}
+use Rattle.engine_old.specs.Quick.{Frame, Waiting, metAt, sureAt, certainIf, certain, countedIf, counted, cutIf, cut}
 use Rattle.stack.specs.Loops.{lastGiven}
 use Rattle.queue.specs.Loops.{isCertain, frontFrom, suffixFrom, Queue}
 use Rattle.columns.specs.Lists.{zeros, getD-zeros, column}

@@ -19,7 +19,7 @@ use borrow.Author.Tests.{eq-eqb, ne-eqb}
 use Rattle.choice.specs.Pick.{pick-true, pick-false}
 use Rattle.records.specs.Write.{nodeBytes, recordsOf}
 use Rattle.records.specs.Write.Laws.{length-records, records-append}
-use Rattle.engine.specs.Quick.{Waiting}
+use Rattle.engine_old.specs.Quick.{Waiting}
 use Rattle.queue.specs.Loops.{Queue, cleared, shifted, written}
 use Rattle.queue.specs.Queue.{Handed, dropped, handedOut, Joined, joined}
 use Rattle.columns.specs.Lists.{zeros, column, column-set}

@@ -17,10 +17,10 @@ use lib.Dec.{eqb}
 use lib.ListN.{length, getD, take, drop, set, length-set, length-append, length-map, replicate-append-replicate}
 use lib.Seq.{drop-set-lt, drop-drop, take-at, drop-at}
 use Rattle.sets.specs.Set.{overlaps}
-use Rattle.engine.specs.Engine.{keepIf, keep}
+use Rattle.engine_old.specs.Engine.{keepIf, keep}
 use Rattle.plan.specs.Plan.{Plan}
-use Rattle.engine.specs.Quick as Quick
-use Rattle.engine.specs.Quick.{Waiting, stay}
+use Rattle.engine_old.specs.Quick as Quick
+use Rattle.engine_old.specs.Quick.{Waiting, stay}
 use Rattle.queue.specs.Loops.{movedNeed, suffixFrom, Queue, Moved, movedUp, cleared}
 use Rattle.queue.specs.Queue.{tidied, closedUp}
 use Rattle.columns.specs.Lists.{zeros, column}

@@ -22,8 +22,8 @@ use borrow.Author.Tests.{eqb-true, leb-false}
 use Rattle.choice.specs.Pick.{pick, pick-true, pick-false}
 use Rattle.plan.specs.Plan as Engine
 use Rattle.plan.specs.Planned.{columns}
-use Rattle.engine.specs.Quick as Quick
-use Rattle.engine.specs.Quick.{Frame, Waiting, State, sureAt, possAt, counted, countedIf, certain, raised, rise, fresh, framesAfter, Opening, wentIf, judged, openingFrom, opening, over, newcomer, queueAfter, outAfter, opens, quickOpen}
+use Rattle.engine_old.specs.Quick as Quick
+use Rattle.engine_old.specs.Quick.{Frame, Waiting, State, sureAt, possAt, counted, countedIf, certain, raised, rise, fresh, framesAfter, Opening, wentIf, judged, openingFrom, opening, over, newcomer, queueAfter, outAfter, opens, quickOpen}
 use Rattle.stack.specs.Loops.{lastGiven}
 use Rattle.stack.specs.Frames.{pushed}
 use Rattle.queue.specs.Loops.{frontIf}

@@ -15,8 +15,8 @@ use mathlib.Core.List.{List, [], _∷_, _++_, map, append-assoc, map-append}
 use lib.Bits.{bitAnd}
 use lib.ListN.{length, getD, set, length-append, length-map}
 use Rattle.plan.specs.Plan.{Plan, named, turn}
-use Rattle.engine.specs.Quick as Quick
-use Rattle.engine.specs.Quick.{Frame, Rise, sureAt, possAt, raised, riseIf, riseAt, rise, refresh, fresh, framesAfter}
+use Rattle.engine_old.specs.Quick as Quick
+use Rattle.engine_old.specs.Quick.{Frame, Rise, sureAt, possAt, raised, riseIf, riseAt, rise, refresh, fresh, framesAfter}
 use Rattle.stack.specs.Loops.{turned, Risen, risen, refreshed}
 use Rattle.stack.specs.Frames.{Frames, Pushed, pushedWith, pushed, popped}
 use Rattle.columns.specs.Lists.{zeros, getD-zeros, column, column-set, column-pop}

@@ -25,13 +25,13 @@ use Rattle.meaning.specs.Standing.{listed, held}
 use Rattle.meaning.specs.Stream as Stream
 use Rattle.meaning.specs.Record.{eventOf}
 use Rattle.meaning.specs.Answer.{eventRefusals, isBad, isOpening, closesWrong, actIf, lowestOr, lowest}
-use Rattle.engine.specs.Every.{every-map}
+use Rattle.engine_old.specs.Every.{every-map}
 use Rattle.plan.specs.Plan.{plan}
 use Rattle.plan.specs.Plan.Laws.{plan-size}
-use Rattle.engine.specs.Quick.{State, Result, nameAt, quickOpen, quickClose}
-use Rattle.engine.specs.Quick.Of.{quickState}
-use Rattle.engine.specs.Quick.Reads.{quick-waiting, quick-depth, quick-ends, quick-levels, quick-met}
-use Rattle.engine.specs.Quick.Theorem.{quick-open, quick-open-out, quick-over, quick-close, quick-close-out}
+use Rattle.engine_old.specs.Quick.{State, Result, nameAt, quickOpen, quickClose}
+use Rattle.engine_old.specs.Quick.Of.{quickState}
+use Rattle.engine_old.specs.Quick.Reads.{quick-waiting, quick-depth, quick-ends, quick-levels, quick-met}
+use Rattle.engine_old.specs.Quick.Theorem.{quick-open, quick-open-out, quick-over, quick-close, quick-close-out}
 use Rattle.records.specs.Read.{shown}
 use Rattle.session.specs.declared.Session.{Session}
 use Rattle.session.specs.declared.Answer.the-variants.{Taken}

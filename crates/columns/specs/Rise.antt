@@ -13,8 +13,8 @@ use lib.Bits.{bitAnd, bitOr}
 use lib.Dec.{eqb}
 use lib.ListN.{length, getD, set}
 use Rattle.choice.specs.Pick.{pick, pick-ap}
-use Rattle.plan.specs.Plan.{Plan, lift}
-use Rattle.engine.specs.Quick.{Frame, Rise, raised, riseIf, riseAt, rise}
+use Rattle.plan.specs.Plan.{Plan, liftAll as lift}
+use Rattle.engine_old.specs.Quick.{Frame, Rise, raised, riseIf, riseAt, rise}
 use Rattle.stack.specs.Loops.{meeting, Risen, risen}
 use Rattle.columns.specs.Lists.{zeros}
 use Rattle.columns.specs.Leaves.{meets-meeting}

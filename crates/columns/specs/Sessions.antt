@@ -10,9 +10,9 @@ use mathlib.Core.Path.{_≡_}
 use mathlib.Core.List.{List}
 use native.Mathlib.Omega.{arith}
 use lib.ListN.{length}
-use Rattle.engine.specs.Every.{Every}
+use Rattle.engine_old.specs.Every.{Every}
 use Rattle.plan.specs.Plan as Engine
-use Rattle.engine.specs.Quick.{State, Result}
+use Rattle.engine_old.specs.Quick.{State, Result}
 use Rattle.stack.specs.Frames.{Frames}
 use Rattle.queue.specs.Loops.{Queue}
 use Rattle.plan.specs.Planned.{sizeOf, columns}

@@ -114,7 +114,8 @@ pub fn possible_at(kept: &[u8], elements: &[u8], level: usize) -> u32
 // `first` rises from a new element under `depth` open ones while it is news. Returns how many of them stayed as they were.
 fn rise(kept: &[u8], elements: &mut [u8], depth: usize, first: u32) -> usize
     requires { ⌜ (length (now kept) ≡ planRoom) × ((length (now elements) ≡ elementsRoom) × (depth ≤ mostOpen)) ⌝ }
-    ensures { λ r. ⌜ record { top = r; elements = elementsIn (now (elements .exit)) } ≡ risenIn (keptIn (now (kept .entry))) first depth (elementsIn (now (elements .entry))) ⌝ }
+    ensures { λ r. ⌜ record { top = r; elements = elementsIn (now (elements .exit)) }
+        ≡ risenIn (keptIn (now (kept .entry))) first depth (elementsIn (now (elements .entry))) ⌝ }
     ensures { λ r. ⌜ r ≤ depth ⌝ }
 {
     let mut news = first;
@@ -154,7 +155,8 @@ fn refresh(kept: &[u8], elements: &mut [u8], ready: u32, from: usize, to: usize)
 pub fn push(kept: &[u8], elements: &mut [u8], x: u32, pass: u32, depth: usize) -> usize
     requires { ⌜ (length (now kept) ≡ planRoom) × ((length (now elements) ≡ elementsRoom) × (depth < mostOpen)) ⌝ }
     requires { ⌜ pass ≡ named (keptIn (now kept)) x ⌝ }
-    ensures { λ r. ⌜ record { top = r; elements = elementsIn (now (elements .exit)) } ≡ pushedIn (keptIn (now (kept .entry))) x depth (elementsIn (now (elements .entry))) ⌝ }
+    ensures { λ r. ⌜ record { top = r; elements = elementsIn (now (elements .exit)) }
+        ≡ pushedIn (keptIn (now (kept .entry))) x depth (elementsIn (now (elements .entry))) ⌝ }
     ensures { λ r. ⌜ r ≤ depth ⌝ }
 {
     let m = pass & plan_bytes::steps(kept, plan_bytes::PLAIN);

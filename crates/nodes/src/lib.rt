@@ -56,7 +56,8 @@ fn certain(kept: &[u8], elements: &[u8], depth: usize, level: u32, need: u32) ->
 fn front(kept: &[u8], elements: &[u8], depth: usize, nodes: &[u8], held: usize) -> usize
     requires { ⌜ (length (now kept) ≡ planRoom) × ((length (now elements) ≡ elementsRoom) × (depth ≤ mostOpen)) ⌝ }
     requires { ⌜ (length (now nodes) ≡ nodesRoom) × (held ≤ mostHeld) ⌝ }
-    ensures { λ r. ⌜ r ≡ counted (certain (keptIn (now (kept .entry))) (take depth (elementsIn (now (elements .entry)) .list))) (take held (queueIn (now (nodes .entry)) .list)) ⌝ }
+    ensures { λ r. ⌜ r ≡ counted (certain (keptIn (now (kept .entry))) (take depth (elementsIn (now (elements .entry)) .list)))
+        (take held (queueIn (now (nodes .entry)) .list)) ⌝ }
     ensures { λ r. ⌜ r ≤ held ⌝ }
 {
     let mut i: usize = 0;
@@ -72,10 +73,18 @@ fn front(kept: &[u8], elements: &[u8], depth: usize, nodes: &[u8], held: usize) 
 }
 
 // The same, looked for only where something was decided.
-pub fn front_if(look: bool, kept: &[u8], elements: &[u8], depth: usize, nodes: &[u8], held: usize) -> usize
+pub fn front_if(
+    look: bool,
+    kept: &[u8],
+    elements: &[u8],
+    depth: usize,
+    nodes: &[u8],
+    held: usize,
+) -> usize
     requires { ⌜ (length (now kept) ≡ planRoom) × ((length (now elements) ≡ elementsRoom) × (depth ≤ mostOpen)) ⌝ }
     requires { ⌜ (length (now nodes) ≡ nodesRoom) × (held ≤ mostHeld) ⌝ }
-    ensures { λ r. ⌜ r ≡ wentIf look (keptIn (now (kept .entry))) (take depth (elementsIn (now (elements .entry)) .list)) (take held (queueIn (now (nodes .entry)) .list)) ⌝ }
+    ensures { λ r. ⌜ r ≡ wentIf look (keptIn (now (kept .entry))) (take depth (elementsIn (now (elements .entry)) .list))
+        (take held (queueIn (now (nodes .entry)) .list)) ⌝ }
     ensures { λ r. ⌜ r ≤ held ⌝ }
 {
     if look {
@@ -115,9 +124,18 @@ fn keep_if(stays: bool, nodes: &mut [u8], end: usize, node: u32, level: u32, nee
 
 // The nodes of `from` to `held` move up to level `to`, out of an element that meets `m`; those that nothing of `ready` can serve leave.
 // Returns how many nodes wait.
-pub fn move_up(kept: &[u8], m: u32, ready: u32, to: u32, nodes: &mut [u8], from: usize, held: usize) -> usize
+pub fn move_up(
+    kept: &[u8],
+    m: u32,
+    ready: u32,
+    to: u32,
+    nodes: &mut [u8],
+    from: usize,
+    held: usize,
+) -> usize
     requires { ⌜ (length (now kept) ≡ planRoom) × ((length (now nodes) ≡ nodesRoom) × ((from ≤ held) × (held ≤ mostHeld))) ⌝ }
-    ensures { λ r. ⌜ record { held = r; queue = queueIn (now (nodes .exit)) } ≡ movedFrom (keptIn (now (kept .entry))) m ready to held from from (queueIn (now (nodes .entry))) ⌝ }
+    ensures { λ r. ⌜ record { held = r; queue = queueIn (now (nodes .exit)) }
+        ≡ movedFrom (keptIn (now (kept .entry))) m ready to held from from (queueIn (now (nodes .entry))) ⌝ }
     ensures { λ r. ⌜ r ≤ held ⌝ }
 {
     let mut end = from;
@@ -162,7 +180,8 @@ fn write_front(nodes: &[u8], k: usize, out: &mut [u8])
 // Hands out the first `k` of `held` nodes.
 pub fn hand_out(k: usize, held: usize, nodes: &mut [u8], out: &mut [u8])
     requires { ⌜ (length (now nodes) ≡ nodesRoom) × ((k ≤ held) × ((held ≤ mostHeld) × (4 * held ≤ length (now out)))) ⌝ }
-    ensures { λ r. ⌜ record { queue = queueIn (now (nodes .exit)); out = now (out .exit) } ≡ handedOut k held (queueIn (now (nodes .entry))) (now (out .entry)) ⌝ }
+    ensures { λ r. ⌜ record { queue = queueIn (now (nodes .exit)); out = now (out .exit) }
+        ≡ handedOut k held (queueIn (now (nodes .entry))) (now (out .entry)) ⌝ }
 {
     if k == 0 {
         return;
@@ -172,10 +191,18 @@ pub fn hand_out(k: usize, held: usize, nodes: &mut [u8], out: &mut [u8])
 }
 
 // Hands out the nodes that go, and the new node where it goes with all of them; else the new node joins or is ruled out. Returns how many wait.
-pub fn join(go: Going, held: usize, number: u32, level: u32, nodes: &mut [u8], out: &mut [u8]) -> usize
+pub fn join(
+    go: Going,
+    held: usize,
+    number: u32,
+    level: u32,
+    nodes: &mut [u8],
+    out: &mut [u8],
+) -> usize
     requires { ⌜ (length (now nodes) ≡ nodesRoom) × ((go .went ≤ held) × ((held ≤ mostHeld) × (4 * held + 4 ≤ length (now out)))) ⌝ }
     requires { ⌜ (go .all ≡ false → go .joins ≡ true → held < mostHeld + go .went) ⌝ }
-    ensures { λ r. ⌜ record { held = r; queue = queueIn (now (nodes .exit)); out = now (out .exit) } ≡ joined go held number level (queueIn (now (nodes .entry))) (now (out .entry)) ⌝ }
+    ensures { λ r. ⌜ record { held = r; queue = queueIn (now (nodes .exit)); out = now (out .exit) }
+        ≡ joined go held number level (queueIn (now (nodes .entry))) (now (out .entry)) ⌝ }
     ensures { λ r. ⌜ r ≤ mostHeld ⌝ }
 {
     let went = go.went;

@@ -104,7 +104,14 @@ fn lay(plan: Plan, bytes: &mut [u8])
     let names = plan.names;
     let hung = plan.hung;
     let size = plan::size_of(plan.size);
-    put_sets(size as u32, plan.deep, plan.main, plan.plain, plan.first, bytes);
+    put_sets(
+        size as u32,
+        plan.deep,
+        plan.main,
+        plan.plain,
+        plan.first,
+        bytes,
+    );
     put_names(&names, bytes);
     put_hung(&hung, bytes);
 }

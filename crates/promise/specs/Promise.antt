@@ -39,9 +39,9 @@ use Rattle.query.specs.Decode.Laws.{meant}
 use Rattle.plan.specs.Plan.{plan}
 use Rattle.plan.specs.Planned.{columns}
 use Rattle.plan.specs.Planned.Laws.{planOf-admitted}
-use Rattle.engine.specs.Quick as Quick
-use Rattle.engine.specs.Quick.Of.{quickState}
-use Rattle.engine.specs.Quick.Reads.{quick-begun, quick-held}
+use Rattle.engine_old.specs.Quick as Quick
+use Rattle.engine_old.specs.Quick.Of.{quickState}
+use Rattle.engine_old.specs.Quick.Reads.{quick-begun, quick-held}
 use Rattle.records.specs.Write.Laws.{Nodes, nodesIn-recordsOf}
 use Rattle.session.specs.declared.Session.{Session}
 use Rattle.session.specs.declared.Begun as given

@@ -11,7 +11,8 @@ ghost use Rattle.element.specs.Element.{mostOpen, elementsRoom, elementsIn};
 ghost use Rattle.node.specs.Node.{mostHeld, nodesRoom, queueIn};
 ghost use Rattle.plan_bytes.specs.Kept.{planRoom, keptIn};
 ghost use Rattle.numbers.specs.Numbers.{numbersRoom, numbersIn};
-ghost use Rattle.step.specs.Step.{outputNeeded, OpenFits, CloseFits, refuseOpen, refuseClose, openingIn, allGo, noPlace, overIn, openNumbers, closeNumbers, movedOut, after, onOpen, onClose, step};
+ghost use Rattle.step.specs.Step.{outputNeeded, OpenFits, CloseFits, refuseOpen, refuseClose, openingIn, allGo, noPlace, overIn};
+ghost use Rattle.step.specs.Step.{openNumbers, closeNumbers, movedOut, after, onOpen, onClose, step};
 use nodes::Going;
 use records::Event;
 
@@ -53,7 +54,8 @@ fn refuse_open(numbers: &[u8]) -> u8
 // The same for a close of `x`.
 fn refuse_close(numbers: &[u8], elements: &[u8], x: u32) -> u8
     requires { ⌜ (length (now numbers) ≡ numbersRoom) × (length (now elements) ≡ elementsRoom) ⌝ }
-    ensures { λ r. ⌜ (r ≡ refuseClose (numbersIn (now (numbers .entry))) (elementsIn (now (elements .entry))) x) × (r ≡ 0 → CloseFits (numbersIn (now (numbers .entry)))) ⌝ }
+    ensures { λ r. ⌜ (r ≡ refuseClose (numbersIn (now (numbers .entry))) (elementsIn (now (elements .entry))) x)
+        × (r ≡ 0 → CloseFits (numbersIn (now (numbers .entry)))) ⌝ }
 {
     if numbers::get(numbers, numbers::ENDED) != 0 {
         return limits::AFTER_END;
@@ -85,10 +87,18 @@ fn all_go(went: usize, held: usize, certain: bool) -> bool
 }
 
 // An element named `x` opens under `depth` others: which nodes go.
-fn opening(kept: &[u8], x: u32, depth: usize, held: usize, elements: &mut [u8], nodes: &[u8]) -> Going
+fn opening(
+    kept: &[u8],
+    x: u32,
+    depth: usize,
+    held: usize,
+    elements: &mut [u8],
+    nodes: &[u8],
+) -> Going
     requires { ⌜ (length (now kept) ≡ planRoom) × ((length (now elements) ≡ elementsRoom) × (length (now nodes) ≡ nodesRoom)) ⌝ }
     requires { ⌜ (depth < mostOpen) × (held ≤ mostHeld) ⌝ }
-    ensures { λ r. ⌜ record { going = r; elements = elementsIn (now (elements .exit)) } ≡ openingIn (keptIn (now (kept .entry))) x depth held (elementsIn (now (elements .entry))) (queueIn (now (nodes .entry))) ⌝ }
+    ensures { λ r. ⌜ record { going = r; elements = elementsIn (now (elements .exit)) }
+        ≡ openingIn (keptIn (now (kept .entry))) x depth held (elementsIn (now (elements .entry))) (queueIn (now (nodes .entry))) ⌝ }
     ensures { λ r. ⌜ r .went ≤ held ⌝ }
 {
     let pass = elements::named(kept, x);
@@ -166,7 +176,14 @@ fn count_open(numbers: &mut [u8], held: u32, given: u32)
     let depth = numbers::get(&*numbers, numbers::DEPTH);
     let opened = numbers::get(&*numbers, numbers::OPENED);
     let handed = numbers::get(&*numbers, numbers::HANDED);
-    numbers::write(numbers, depth + 1, held, opened + 1, std::num::wrapping_add_u32(handed, given), 0);
+    numbers::write(
+        numbers,
+        depth + 1,
+        held,
+        opened + 1,
+        std::num::wrapping_add_u32(handed, given),
+        0,
+    );
 }
 
 // The same after a close.
@@ -178,14 +195,22 @@ fn count_close(numbers: &mut [u8], held: u32, given: u32)
     let opened = numbers::get(&*numbers, numbers::OPENED);
     let handed = numbers::get(&*numbers, numbers::HANDED);
     let ended = above == 0;
-    numbers::write(numbers, above, held, opened, std::num::wrapping_add_u32(handed, given), ended as u32);
+    numbers::write(
+        numbers,
+        above,
+        held,
+        opened,
+        std::num::wrapping_add_u32(handed, given),
+        ended as u32,
+    );
 }
 
 // The nodes that wait at the innermost of `depth` elements move up out of it or leave. Returns how many nodes wait.
 fn move_out(kept: &[u8], depth: usize, held: usize, elements: &[u8], nodes: &mut [u8]) -> usize
     requires { ⌜ (length (now kept) ≡ planRoom) × ((length (now elements) ≡ elementsRoom) × (length (now nodes) ≡ nodesRoom)) ⌝ }
     requires { ⌜ (0 < depth) × ((depth ≤ mostOpen) × (held ≤ mostHeld)) ⌝ }
-    ensures { λ r. ⌜ record { held = r; queue = queueIn (now (nodes .exit)) } ≡ movedOut (keptIn (now (kept .entry))) depth held (elementsIn (now (elements .entry))) (queueIn (now (nodes .entry))) ⌝ }
+    ensures { λ r. ⌜ record { held = r; queue = queueIn (now (nodes .exit)) }
+        ≡ movedOut (keptIn (now (kept .entry))) depth held (elementsIn (now (elements .entry))) (queueIn (now (nodes .entry))) ⌝ }
     ensures { λ r. ⌜ r ≤ held ⌝ }
 {
     let above = depth - 1;
@@ -196,10 +221,20 @@ fn move_out(kept: &[u8], depth: usize, held: usize, elements: &[u8], nodes: &mut
 }
 
 // An element named `x` opens.
-fn open(kept: &[u8], x: u32, numbers: &mut [u8], elements: &mut [u8], nodes: &mut [u8], out: &mut [u8]) -> Stepped
+fn open(
+    kept: &[u8],
+    x: u32,
+    numbers: &mut [u8],
+    elements: &mut [u8],
+    nodes: &mut [u8],
+    out: &mut [u8],
+) -> Stepped
     requires { ⌜ (length (now kept) ≡ planRoom) × (length (now numbers) ≡ numbersRoom) ⌝ }
     requires { ⌜ (length (now elements) ≡ elementsRoom) × ((length (now nodes) ≡ nodesRoom) × (outputNeeded ≤ length (now out))) ⌝ }
-    ensures { λ r. ⌜ after (r .refusal) (r .given) (numbersIn (now (numbers .exit))) (elementsIn (now (elements .exit))) (queueIn (now (nodes .exit))) (now (out .exit)) ≡ onOpen (keptIn (now (kept .entry))) x (numbersIn (now (numbers .entry))) (elementsIn (now (elements .entry))) (queueIn (now (nodes .entry))) (now (out .entry)) ⌝ }
+    ensures { λ r. ⌜ after (r .refusal) (r .given) (numbersIn (now (numbers .exit))) (elementsIn (now (elements .exit)))
+        (queueIn (now (nodes .exit))) (now (out .exit))
+        ≡ onOpen (keptIn (now (kept .entry))) x (numbersIn (now (numbers .entry))) (elementsIn (now (elements .entry)))
+        (queueIn (now (nodes .entry))) (now (out .entry)) ⌝ }
 {
     let refusal = refuse_open(&*numbers);
     if refusal != 0 {
@@ -222,10 +257,20 @@ fn open(kept: &[u8], x: u32, numbers: &mut [u8], elements: &mut [u8], nodes: &mu
 }
 
 // The innermost element closes, named `x`.
-fn close(kept: &[u8], x: u32, numbers: &mut [u8], elements: &[u8], nodes: &mut [u8], out: &mut [u8]) -> Stepped
+fn close(
+    kept: &[u8],
+    x: u32,
+    numbers: &mut [u8],
+    elements: &[u8],
+    nodes: &mut [u8],
+    out: &mut [u8],
+) -> Stepped
     requires { ⌜ (length (now kept) ≡ planRoom) × (length (now numbers) ≡ numbersRoom) ⌝ }
     requires { ⌜ (length (now elements) ≡ elementsRoom) × ((length (now nodes) ≡ nodesRoom) × (outputNeeded ≤ length (now out))) ⌝ }
-    ensures { λ r. ⌜ after (r .refusal) (r .given) (numbersIn (now (numbers .exit))) (elementsIn (now (elements .entry))) (queueIn (now (nodes .exit))) (now (out .exit)) ≡ onClose (keptIn (now (kept .entry))) x (numbersIn (now (numbers .entry))) (elementsIn (now (elements .entry))) (queueIn (now (nodes .entry))) (now (out .entry)) ⌝ }
+    ensures { λ r. ⌜ after (r .refusal) (r .given) (numbersIn (now (numbers .exit))) (elementsIn (now (elements .entry)))
+        (queueIn (now (nodes .exit))) (now (out .exit))
+        ≡ onClose (keptIn (now (kept .entry))) x (numbersIn (now (numbers .entry))) (elementsIn (now (elements .entry)))
+        (queueIn (now (nodes .entry))) (now (out .entry)) ⌝ }
 {
     let refusal = refuse_close(&*numbers, elements, x);
     if refusal != 0 {
@@ -244,10 +289,20 @@ fn close(kept: &[u8], x: u32, numbers: &mut [u8], elements: &[u8], nodes: &mut [
 }
 
 // One event.
-pub fn step(kept: &[u8], bytes: &[u8], numbers: &mut [u8], elements: &mut [u8], nodes: &mut [u8], out: &mut [u8]) -> Stepped
+pub fn step(
+    kept: &[u8],
+    bytes: &[u8],
+    numbers: &mut [u8],
+    elements: &mut [u8],
+    nodes: &mut [u8],
+    out: &mut [u8],
+) -> Stepped
     requires { ⌜ (length (now kept) ≡ planRoom) × (length (now numbers) ≡ numbersRoom) ⌝ }
     requires { ⌜ (length (now elements) ≡ elementsRoom) × ((length (now nodes) ≡ nodesRoom) × (outputNeeded ≤ length (now out))) ⌝ }
-    ensures { λ r. ⌜ after (r .refusal) (r .given) (numbersIn (now (numbers .exit))) (elementsIn (now (elements .exit))) (queueIn (now (nodes .exit))) (now (out .exit)) ≡ step (keptIn (now (kept .entry))) (shown (eventOf (now (bytes .entry)))) (numbersIn (now (numbers .entry))) (elementsIn (now (elements .entry))) (queueIn (now (nodes .entry))) (now (out .entry)) ⌝ }
+    ensures { λ r. ⌜ after (r .refusal) (r .given) (numbersIn (now (numbers .exit))) (elementsIn (now (elements .exit)))
+        (queueIn (now (nodes .exit))) (now (out .exit))
+        ≡ step (keptIn (now (kept .entry))) (shown (eventOf (now (bytes .entry)))) (numbersIn (now (numbers .entry))) (elementsIn (now (elements .entry)))
+        (queueIn (now (nodes .entry))) (now (out .entry)) ⌝ }
 {
     let event = records::read_event(bytes);
     match event {

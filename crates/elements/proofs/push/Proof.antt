@@ -44,10 +44,12 @@ returns c = let refreshed = c .before .before in
     let risen = read .before .before .before .before in
     let turned = risen .before .before .before in
     let steps = turned .before .before .before in
-    let start = steps .before .before .before in
-    (push-parts _ _ _ _ (start .pre .0 .1 .1) _ _ _ _ _ _ _ _ _ _ (start .pre .1) (steps .steps .ensures)
-    (turned .before .possible-at .ensures) (turned .turn .ensures) (risen .before .predicates .ensures) (risen .rise .ensures .0) (read .sure-at .ensures)
-    (made .«open» .ensures) (refreshed .refresh .ensures), risen .rise .ensures .1)
+    let start = steps .before .before .before in (
+      push-parts _ _ _ _ (start .pre .0 .1 .1) _ _ _ _ _ _ _ _ _ _ (start .pre .1) (steps .steps .ensures)
+          (turned .before .possible-at .ensures) (turned .turn .ensures) (risen .before .predicates .ensures) (risen .rise .ensures .0) (read .sure-at .ensures)
+          (made .«open» .ensures) (refreshed .refresh .ensures),
+      risen .rise .ensures .1,
+    )
 
 pub push-spec : {M : Type 1} → statement M
 push-spec =

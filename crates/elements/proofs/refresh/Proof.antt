@@ -39,10 +39,17 @@ loop-less c = search needs
 
 loop-again : tie.Need-loop-again Inv-loop μ-loop
 loop-again c = let at-loop = c .before .before .before .before .before .before .before .before .loop in
-    let turned = c .before .before .before .before in
-    (omega arith, (omega arith, (search needs,
-      refresh-step _ _ _ _ _ _ _ _ (omega arith) (omega (arith, frames-length (at-loop .elements))) (turned .before .get .ensures) (turned .turn .ensures)
-      (c .before .before .refresh .ensures) ∙ at-loop .inv .1 .1 .1)))
+    let turned = c .before .before .before .before in (
+      omega arith,
+      (
+        omega arith,
+        (
+          search needs,
+          refresh-step _ _ _ _ _ _ _ _ (omega arith) (omega (arith, frames-length (at-loop .elements))) (turned .before .get .ensures) (turned .turn .ensures)
+              (c .before .before .refresh .ensures) ∙ at-loop .inv .1 .1 .1,
+        ),
+      ),
+    )
 
 same-length : tie.Need-same-length Inv-loop μ-loop
 same-length c = search needs

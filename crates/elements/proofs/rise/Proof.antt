@@ -57,11 +57,16 @@ loop-again c = let raised = c .before .before .before in
     let read = other .before in
     let entered = read .before .before in
     let at-loop = entered .before .loop in
-    let start = entered .before .before .before .before in
-    (omega arith, (search needs,
-      (rise-step _ _ _ _ _ (entered .loop-test .taken) (le-trans (at-loop .inv .0) (start .pre .1 .1)) (read .get .ensures) _ _ _ _ (met .before .get2 .ensures)
-      (other .if1 .left) (met .meets .ensures) (raised .raise .ensures) (c .lift .ensures)
-      ∙ at-loop .inv .1 .1)))
+    let start = entered .before .before .before .before in (
+      omega arith,
+      (
+        search needs,
+        (rise-step _ _ _ _ _ (entered .loop-test .taken) (le-trans (at-loop .inv .0) (start .pre .1 .1)) (read .get .ensures) _ _ _ _
+            (met .before .get2 .ensures)
+            (other .if1 .left) (met .meets .ensures) (raised .raise .ensures) (c .lift .ensures)
+            ∙ at-loop .inv .1 .1),
+      ),
+    )
 
 same-length-2 : tie.Need-same-length-2 Inv-loop μ-loop
 same-length-2 c = search needs

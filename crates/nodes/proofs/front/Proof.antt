@@ -14,7 +14,8 @@ use Rattle.nodes.proofs.front.Statement.{statement}
 use Rattle.nodes.proofs.front.Tie as tie
 
 abbrev Inv-loop : tie.InvT-loop
-Inv-loop kept elements depth nodes held i₀ i = (i ≤ held) × (i + counted (certain (keptIn kept) (take depth (elementsIn elements .list))) (drop i (take held (queueIn nodes .list)))
+Inv-loop kept elements depth nodes held i₀ i =
+    (i ≤ held) × (i + counted (certain (keptIn kept) (take depth (elementsIn elements .list))) (drop i (take held (queueIn nodes .list)))
     ≡ counted (certain (keptIn kept) (take depth (elementsIn elements .list))) (take held (queueIn nodes .list)))
 
 abbrev μ-loop : tie.MeasureT-loop
@@ -35,9 +36,11 @@ certain-requires c κs = search needs
 returns : tie.Need-returns Inv-loop μ-loop
 returns c = let asked = c .before in
     let at-loop = asked .before .before .before .before in
-    let start = at-loop .before .before .before .before in
-    (front-stop _ _ _ _ _ (start .pre .1 .1) _ _ _ (asked .before .before .before .loop-test .taken) (asked .before .before .get .ensures)
-    (asked .before .get2 .ensures) (asked .certain .ensures) (not-true _ (c .if1 .taken)) ∙ at-loop .loop .inv .1, omega arith)
+    let start = at-loop .before .before .before .before in (
+      front-stop _ _ _ _ _ (start .pre .1 .1) _ _ _ (asked .before .before .before .loop-test .taken) (asked .before .before .get .ensures)
+          (asked .before .get2 .ensures) (asked .certain .ensures) (not-true _ (c .if1 .taken)) ∙ at-loop .loop .inv .1,
+      omega arith,
+    )
 
 add-i : tie.Need-add-i Inv-loop μ-loop
 add-i c = search needs
@@ -48,9 +51,11 @@ loop-less c = search needs
 loop-again : tie.Need-loop-again Inv-loop μ-loop
 loop-again c = let asked = c .before in
     let at-loop = asked .before .before .before .before in
-    let start = at-loop .before .before .before .before in
-    (omega arith, front-step _ _ _ _ _ (start .pre .1 .1) _ _ _ (asked .before .before .before .loop-test .taken) (asked .before .before .get .ensures)
-    (asked .before .get2 .ensures) (asked .certain .ensures) (not-false _ (c .if1 .left)) ∙ at-loop .loop .inv .1)
+    let start = at-loop .before .before .before .before in (
+      omega arith,
+      front-step _ _ _ _ _ (start .pre .1 .1) _ _ _ (asked .before .before .before .loop-test .taken) (asked .before .before .get .ensures)
+          (asked .before .get2 .ensures) (asked .certain .ensures) (not-false _ (c .if1 .left)) ∙ at-loop .loop .inv .1,
+    )
 
 returns-2 : tie.Need-returns-2 Inv-loop μ-loop
 returns-2 c = let start = c .before .before .before .before .before in

@@ -48,10 +48,17 @@ loop-again c = let kept = c .before .before in
     let at-loop = entered .before in
     let start = at-loop .before .before .before in
     let inv = at-loop .loop .inv in
-    let room = kept-held _ _ _ _ _ _ _ (kept .keep-if .ensures) .1 in
-    (le-trans room (omega arith), (omega arith, (search needs,
-      move-step _ _ _ _ _ _ _ _ (start .pre .1 .1 .1) (inv .0) (entered .loop-test .taken) _ _ _ _ (moved .before .before .before .get .ensures)
-      (moved .before .get2 .ensures) (moved .up .ensures) (kept .keep-if .ensures) ∙ inv .1 .1 .1)))
+    let room = kept-held _ _ _ _ _ _ _ (kept .keep-if .ensures) .1 in (
+      le-trans room (omega arith),
+      (
+        omega arith,
+        (
+          search needs,
+          move-step _ _ _ _ _ _ _ _ (start .pre .1 .1 .1) (inv .0) (entered .loop-test .taken) _ _ _ _ (moved .before .before .before .get .ensures)
+              (moved .before .get2 .ensures) (moved .up .ensures) (kept .keep-if .ensures) ∙ inv .1 .1 .1,
+        ),
+      ),
+    )
 
 same-length : tie.Need-same-length Inv-loop μ-loop
 same-length c = search needs

@@ -54,10 +54,15 @@ loop-again c = let wrote = c .before .before in
     let entered = wrote .before .before .before .before .before .before .before .before in
     let at-loop = entered .before in
     let start = at-loop .before .before in
-    let inv = at-loop .loop .inv in
-    (omega arith, (search needs,
-      (shift-step _ _ _ _ (start .pre .1 .1) _ _ _ _ (start .pre .1 .0) (entered .loop-test .taken) (wrote .before .before .before .before .before .before .get .ensures)
-      (wrote .before .before .before .before .get2 .ensures) (wrote .before .before .get3 .ensures) (wrote .write .ensures) ∙ inv .1 .1)))
+    let inv = at-loop .loop .inv in (
+      omega arith,
+      (
+        search needs,
+        (shift-step _ _ _ _ (start .pre .1 .1) _ _ _ _ (start .pre .1 .0) (entered .loop-test .taken)
+            (wrote .before .before .before .before .before .before .get .ensures)
+            (wrote .before .before .before .before .get2 .ensures) (wrote .before .before .get3 .ensures) (wrote .write .ensures) ∙ inv .1 .1),
+      ),
+    )
 
 same-length : tie.Need-same-length Inv-loop μ-loop
 same-length c = search needs

@@ -29,17 +29,21 @@ get-requires : tie.Need-get-requires Inv-loop μ-loop
 get-requires c κs = search needs
 
 returns : tie.Need-returns Inv-loop μ-loop
-returns c = let inv = c .before .before .before .loop .inv in
-    (suffix-stop _ _ _ _ (c .before .before .loop-test .taken) (le-trans (inv .0) (c .before .before .before .before .before .pre .1)) (c .before .get .ensures)
-    (c .if1 .taken) ∙ inv .1, omega arith)
+returns c = let inv = c .before .before .before .loop .inv in (
+  suffix-stop _ _ _ _ (c .before .before .loop-test .taken) (le-trans (inv .0) (c .before .before .before .before .before .pre .1)) (c .before .get .ensures)
+      (c .if1 .taken) ∙ inv .1,
+  omega arith,
+)
 
 loop-less : tie.Need-loop-less Inv-loop μ-loop
 loop-less c = search needs
 
 loop-again : tie.Need-loop-again Inv-loop μ-loop
-loop-again c = let inv = c .before .before .before .loop .inv in
-    (omega arith, suffix-step _ _ _ _ (c .before .before .loop-test .taken) (le-trans (inv .0) (c .before .before .before .before .before .pre .1))
-    (c .before .get .ensures) (c .if1 .left) ∙ inv .1)
+loop-again c = let inv = c .before .before .before .loop .inv in (
+  omega arith,
+  suffix-step _ _ _ _ (c .before .before .loop-test .taken) (le-trans (inv .0) (c .before .before .before .before .before .pre .1))
+      (c .before .get .ensures) (c .if1 .left) ∙ inv .1,
+)
 
 returns-2 : tie.Need-returns-2 Inv-loop μ-loop
 returns-2 c = (suffix-done _ _ _ (omega arith) ∙ c .before .loop .inv .1, omega arith)

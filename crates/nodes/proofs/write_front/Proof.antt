@@ -39,9 +39,13 @@ loop-again : tie.Need-loop-again Inv-loop μ-loop
 loop-again c = let wrote = c .before .before in
     let entered = wrote .before .before .before in
     let at-loop = entered .before in
-    let inv = at-loop .loop .inv in
-    (omega arith, (search needs,
-      write-step _ _ _ _ _ _ (omega arith) (omega arith) (inv .1 .1) (wrote .before .get .ensures) (wrote .put-node .ensures)))
+    let inv = at-loop .loop .inv in (
+      omega arith,
+      (
+        search needs,
+        write-step _ _ _ _ _ _ (omega arith) (omega arith) (inv .1 .1) (wrote .before .get .ensures) (wrote .put-node .ensures),
+      ),
+    )
 
 same-length : tie.Need-same-length Inv-loop μ-loop
 same-length c = search needs

@@ -20,8 +20,10 @@ use mathlib.Core.Bool.{Bool, true, false, not}
 use mathlib.Core.List.{List, [], _∷_, _++_, map, append-assoc, append-nil, map-append}
 use lib.Bits.{bitAnd, and-zero-l, and-zero-r}
 use lib.Dec.{eqb}
-use lib.ListN.{length, getD, set, take, drop, length-append, length-map, length-drop, drop-of-length-le, take-append-drop, List·getD-map, List·getD-append, List·getD-eq-default}
-use lib.Seq.{sets, take-suc, take-suc-set, take-set-lt, drop-cons, take-set-le, drop-set-lt, set-split, take-at, drop-at, getD-at, length-take-le, drop-drop, getD-take, take-take, take-all}
+use lib.ListN.{length, getD, set, take, drop, length-append, length-map, length-drop, drop-of-length-le, take-append-drop}
+use lib.ListN.{List·getD-map, List·getD-append, List·getD-eq-default}
+use lib.Seq.{sets, take-suc, take-suc-set, take-set-lt, drop-cons, take-set-le, drop-set-lt, set-split, take-at, drop-at, getD-at}
+use lib.Seq.{length-take-le, drop-drop, getD-take, take-take, take-all}
 use borrow.Author.Tests.{eq-eqb, ne-eqb}
 use Rattle.choice.specs.Pick.{pick, pick-true, pick-false, pick-yes, pick-no}
 use Rattle.choice.specs.Count.{left, gone, down}
@@ -202,7 +204,9 @@ module _ (bs : List ℕ) (from level : ℕ) where
 -- moving up
 
 module _ (stays : Bool) (end x to need : ℕ) (N : Queue) where
-  pub keep-yes : (N′ : Queue) → stays ≡ true → N′ ≡ wroteIn end x to need N → _≡_ {A = Moved} (record { held = end + 1; queue = N′ }) (keptIf stays end x to need N)
+  pub keep-yes :
+      (N′ : Queue) → stays ≡ true → N′ ≡ wroteIn end x to need N →
+      _≡_ {A = Moved} (record { held = end + 1; queue = N′ }) (keptIf stays end x to need N)
   unfolding keptIf
   keep-yes N′ h e = pick-yes _ _ _ _ h (ap (λ (n : Queue). record { held = end + 1; queue = n }) e)
 
@@ -294,7 +298,8 @@ module _ (k held i : ℕ) (bs : List ℕ) (fits : held ≤ mostHeld) where
       ∙ ap₂ (λ p q. with (p ++ q) Q)
       (ap (λ j. take j (set l i w)) (add-one i) ∙ take-suc-set l i w (omega arith))
       (ap₂ (λ p q. p ++ q)
-      (ap (drop (i + 1 + k)) (take-set-lt held l i w (omega arith)) ∙ drop-set-lt (i + 1 + k) (take held l) i w (omega arith) ∙ ap (λ j. drop j (take held l)) a)
+      (ap (drop (i + 1 + k)) (take-set-lt held l i w (omega arith))
+      ∙ drop-set-lt (i + 1 + k) (take held l) i w (omega arith) ∙ ap (λ j. drop j (take held l)) a)
       (drop-set-lt (held - k) l i w h))
       ∙ ap (λ p. with p Q) (append-assoc (take i l) (w ∷ []) (drop (i + k + 1) (take held l) ++ drop (held - k) l))
       ∙ sym (ap (λ p. with (take i l ++ (p ++ drop (held - k) l)) Q) (here bs held fits (i + k) (omega arith)))

@@ -15,7 +15,9 @@ get-requires-3 : tie.Need-get-requires-3
 get-requires-3 c κs = search needs
 
 add-write : tie.Need-add-write
-add-write c = omega (arith, depth-is, c .before .before .before .before .before .get .ensures, c .before .before .before .before .before .before .before .before .pre .1 .deep)
+add-write c = let at-get = c .before .before .before .before .before in
+    let start = at-get .before .before .before in
+    omega (arith, depth-is, at-get .get .ensures, start .pre .1 .deep)
 
 add-write-2 : tie.Need-add-write-2
 add-write-2 c = omega (arith, c .before .before .before .get2 .ensures, c .before .before .before .before .before .before .before .before .pre .1 .few)

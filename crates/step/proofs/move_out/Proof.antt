@@ -31,9 +31,11 @@ same-length c = search needs
 
 returns : tie.Need-returns
 returns c = let moved = c .before .before in
-    let cut = moved .before .before in
-    (move-told _ _ _ _ _ _ _ _ _ (cut .before .before .before .get .ensures) (cut .before .before .possible-at .ensures) (cut .suffix .ensures .0)
-    (moved .move-up .ensures .0), moved .move-up .ensures .1)
+    let cut = moved .before .before in (
+      move-told _ _ _ _ _ _ _ _ _ (cut .before .before .before .get .ensures) (cut .before .before .possible-at .ensures) (cut .suffix .ensures .0)
+          (moved .move-up .ensures .0),
+      moved .move-up .ensures .1,
+    )
 
 pub move-out-spec : {M : Type 1} → statement M
 move-out-spec =

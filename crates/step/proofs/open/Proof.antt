@@ -40,8 +40,14 @@ cast-held : tie.Need-cast-held
 cast-held c = search needs
 
 full-requires : tie.Need-full-requires
-full-requires c κs = let fits = c .before .before .before .before .before .before .before .refuse-open .ensures .1 (c .before .before .before .before .before .before .if1 .left) in
-    (search needs, (omega (arith, c .before .before .before .before .get .ensures, fits .deep), omega (arith, c .before .before .get2 .ensures, fits .held)))
+full-requires c κs = (
+  search needs,
+  let at-get = c .before .before .before .before in
+      let at-if1 = at-get .before .before in
+      let at-refuse-open = at-if1 .before in
+      let fits = at-refuse-open .refuse-open .ensures .1 (at-if1 .if1 .left) in
+      (omega (arith, at-get .get .ensures, fits .deep), omega (arith, c .before .before .get2 .ensures, fits .held)),
+)
 
 refused-requires-2 : tie.Need-refused-requires-2
 refused-requires-2 c κs = search needs
@@ -56,49 +62,103 @@ same-length-4 : tie.Need-same-length-4
 same-length-4 c = search needs
 
 returns-2 : tie.Need-returns-2
-returns-2 c = let args = c .before .before .before .before .before .before .before .before .before .before .before .before .before .before .before .before .before .args in
+returns-2 c = let at-get2 = c .before .before .before .before .before in
+    let at-get = at-get2 .before .before in
+    let at-if1 = at-get .before .before in
+    let at-refuse-open = at-if1 .before in
+    let start = at-refuse-open .before .before .before .before .before .before .before in
+    let args = start .args in
     refused-as _ _ _ _ _ _ (c .refused2 .ensures)
     ∙ open-full (keptIn (args .kept .now)) (args .x) (numbersIn (args .numbers .now)) (elementsIn (args .elements .now)) (queueIn (args .nodes .now)) _ _ _ _
-    (c .before .before .before .before .before .before .before .before .before .before .refuse-open .ensures .0) (c .before .before .before .before .before .before .before .before .before .if1 .left) (c .before .before .before .before .before .before .before .get .ensures) (c .before .before .before .before .before .get2 .ensures) _ (c .before .before .full .ensures) (c .before .if2 .taken)
+    (at-refuse-open .refuse-open .ensures .0) (at-if1 .if1 .left) (at-get .get .ensures) (at-get2 .get2 .ensures) _
+    (c .before .before .full .ensures) (c .before .if2 .taken)
 
 opening-requires : tie.Need-opening-requires
-opening-requires c κs = let fits = c .before .before .before .before .before .before .before .before .before .before .before .refuse-open .ensures .1 (c .before .before .before .before .before .before .before .before .before .before .if1 .left) in
-    (search needs, (omega (arith, c .before .before .before .before .before .before .before .before .get .ensures, fits .deep), omega (arith, c .before .before .before .before .before .before .get2 .ensures, fits .held)))
+opening-requires c κs = (
+  search needs,
+  let at-get2 = c .before .before .before .before .before .before in
+      let at-get = at-get2 .before .before in
+      let at-if1 = at-get .before .before in
+      let at-refuse-open = at-if1 .before in
+      let fits = at-refuse-open .refuse-open .ensures .1 (at-if1 .if1 .left) in
+      (omega (arith, at-get .get .ensures, fits .deep), omega (arith, at-get2 .get2 .ensures, fits .held)),
+)
 
 get-requires-3 : tie.Need-get-requires-3
 get-requires-3 c κs = search needs
 
 add-number : tie.Need-add-number
-add-number c = let fits = c .before .before .before .before .before .before .before .before .before .before .before .before .before .before .before .before .refuse-open .ensures .1 (c .before .before .before .before .before .before .before .before .before .before .before .before .before .before .before .if1 .left) in omega (arith, c .get3 .ensures, fits .few)
+add-number c = let at-if1 = c .before .before .before .before .before .before .before .before .before .before .before .before .before .before .before in
+    let at-refuse-open = at-if1 .before in
+    let fits = at-refuse-open .refuse-open .ensures .1 (at-if1 .if1 .left) in
+    omega (arith, c .get3 .ensures, fits .few)
 
 add-join : tie.Need-add-join
-add-join c = let fits = c .before .before .before .before .before .before .before .before .before .before .before .before .before .before .before .before .refuse-open .ensures .1 (c .before .before .before .before .before .before .before .before .before .before .before .before .before .before .before .if1 .left) in omega (arith, depth-is, c .before .before .before .before .before .before .before .before .before .before .before .before .before .get .ensures, fits .deep)
+add-join c = let at-get = c .before .before .before .before .before .before .before .before .before .before .before .before .before in
+    let at-if1 = at-get .before .before in
+    let at-refuse-open = at-if1 .before in
+    let fits = at-refuse-open .refuse-open .ensures .1 (at-if1 .if1 .left) in
+    omega (arith, depth-is, at-get .get .ensures, fits .deep)
 
 cast-join : tie.Need-cast-join
-cast-join c = let fits = c .before .before .before .before .before .before .before .before .before .before .before .before .before .before .before .before .refuse-open .ensures .1 (c .before .before .before .before .before .before .before .before .before .before .before .before .before .before .before .if1 .left) in omega (arith, depth-is, c .before .before .before .before .before .before .before .before .before .before .before .before .before .get .ensures, fits .deep)
+cast-join c = let at-get = c .before .before .before .before .before .before .before .before .before .before .before .before .before in
+    let at-if1 = at-get .before .before in
+    let at-refuse-open = at-if1 .before in
+    let fits = at-refuse-open .refuse-open .ensures .1 (at-if1 .if1 .left) in
+    omega (arith, depth-is, at-get .get .ensures, fits .deep)
 
 join-requires : tie.Need-join-requires
-join-requires c κs = let fits = c .before .before .before .before .before .before .before .before .before .before .before .before .before .before .before .before .before .before .refuse-open .ensures .1 (c .before .before .before .before .before .before .before .before .before .before .before .before .before .before .before .before .before .if1 .left) in
-    let start = c .before .before .before .before .before .before .before .before .before .before .before .before .before .before .before .before .before .before .before .before .before .before .before .before .before in
-    ((search needs, (c .before .before .before .before .before .before .opening .ensures .1, (omega (arith, c .before .before .before .before .before .before .before .before .before .before .before .before .before .get2 .ensures, fits .held), omega (arith, output-is, c .before .before .before .before .before .before .before .before .before .before .before .before .before .get2 .ensures, fits .held, start .pre .1 .1 .1)))),
-    has-place _ _ _ _ _ _ (omega (arith, c .before .before .before .before .before .before .before .before .before .before .before .before .before .before .before .get .ensures, fits .deep)) (omega (arith, c .before .before .before .before .before .before .before .before .before .before .before .before .before .get2 .ensures, fits .held)) _ _ _
-    (c .before .before .before .before .before .before .opening .ensures .0) (c .before .before .before .before .before .before .before .before .before .before .full .ensures) (c .before .before .before .before .before .before .before .before .before .if2 .left))
+join-requires c κs = let at-opening = c .before .before .before .before .before .before in
+    let at-if2 = at-opening .before .before .before in
+    let at-full = at-if2 .before in
+    let at-get2 = at-full .before .before .before in
+    let at-get = at-get2 .before .before in
+    let at-if1 = at-get .before .before in
+    let at-refuse-open = at-if1 .before in
+    let fits = at-refuse-open .refuse-open .ensures .1 (at-if1 .if1 .left) in
+    let start = at-refuse-open .before .before .before .before .before .before .before in (
+      (
+        search needs,
+        (
+          at-opening .opening .ensures .1,
+          (
+            omega (arith, at-get2 .get2 .ensures, fits .held),
+            omega (arith, output-is, at-get2 .get2 .ensures, fits .held, start .pre .1 .1 .1),
+          ),
+        ),
+      ),
+      has-place _ _ _ _ _ _ (omega (arith, at-get .get .ensures, fits .deep)) (omega (arith, at-get2 .get2 .ensures, fits .held)) _ _ _
+          (at-opening .opening .ensures .0) (at-full .full .ensures) (at-if2 .if2 .left),
+    )
 
 cast-given : tie.Need-cast-given
-cast-given c = let fits = c .before .before .before .before .before .before .before .before .before .before .before .before .before .before .before .before .before .before .before .before .before .before .before .before .refuse-open .ensures .1 (c .before .before .before .before .before .before .before .before .before .before .before .before .before .before .before .before .before .before .before .before .before .before .before .if1 .left) in omega (arith, held-is, c .before .before .before .before .before .before .before .before .before .before .before .before .opening .ensures .1, c .before .before .before .before .before .before .before .before .before .before .before .before .before .before .before .before .before .before .before .get2 .ensures, fits .held)
+cast-given c = let at-opening = c .before .before .before .before .before .before .before .before .before .before .before .before in
+    let at-get2 = at-opening .before .before .before .before .before .before .before in
+    let at-if1 = at-get2 .before .before .before .before in
+    let at-refuse-open = at-if1 .before in
+    let fits = at-refuse-open .refuse-open .ensures .1 (at-if1 .if1 .left) in
+    omega (arith, held-is, at-opening .opening .ensures .1, at-get2 .get2 .ensures, fits .held)
 
 cast-given-2 : tie.Need-cast-given-2
 cast-given-2 c = search needs
 
 add-given : tie.Need-add-given
-add-given c = let fits = c .before .before .before .before .before .before .before .before .before .before .before .before .before .before .before .before .before .before .before .before .before .before .before .before .before .refuse-open .ensures .1 (c .before .before .before .before .before .before .before .before .before .before .before .before .before .before .before .before .before .before .before .before .before .before .before .before .if1 .left) in
-    omega (arith, held-is, c .before .before .before .before .before .before .before .before .before .before .before .before .before .opening .ensures .1, c .before .before .before .before .before .before .before .before .before .before .before .before .before .before .before .before .before .before .before .before .get2 .ensures, fits .held, boolByte-le (c .before .before .before .before .before .before .before .before .before .before .before .before .before .opening .result .all))
+add-given c = let at-opening = c .before .before .before .before .before .before .before .before .before .before .before .before .before in
+    let at-get2 = at-opening .before .before .before .before .before .before .before in
+    let at-if1 = at-get2 .before .before .before .before in
+    let at-refuse-open = at-if1 .before in
+    let fits = at-refuse-open .refuse-open .ensures .1 (at-if1 .if1 .left) in
+    omega (arith, held-is, at-opening .opening .ensures .1, at-get2 .get2 .ensures, fits .held, boolByte-le (at-opening .opening .result .all))
 
 cast-count-open : tie.Need-cast-count-open
 cast-count-open c = omega (arith, held-is, c .before .before .before .before .before .before .before .join .ensures .1)
 
 count-open-requires : tie.Need-count-open-requires
-count-open-requires c κs = (c .before .before .before .before .before .before .before .before .before .before .before .before .before .before .before .before .before .before .before .before .before .before .before .before .before .before .before .before .before .before .before .before .before .pre .0 .1, c .before .before .before .before .before .before .before .before .before .before .before .before .before .before .before .before .before .before .before .before .before .before .before .before .before .before .refuse-open .ensures .1 (c .before .before .before .before .before .before .before .before .before .before .before .before .before .before .before .before .before .before .before .before .before .before .before .before .before .if1 .left))
+count-open-requires c κs = let at-if1 = c .before .before .before .before .before .before .before .before .before .before .before .before .before
+    .before .before .before .before .before .before .before .before .before .before .before .before in
+    let at-refuse-open = at-if1 .before in
+    let start = at-refuse-open .before .before .before .before .before .before .before in
+    (start .pre .0 .1, at-refuse-open .refuse-open .ensures .1 (at-if1 .if1 .left))
 
 same-length-5 : tie.Need-same-length-5
 same-length-5 c = search needs
@@ -113,10 +173,21 @@ same-length-8 : tie.Need-same-length-8
 same-length-8 c = search needs
 
 returns-3 : tie.Need-returns-3
-returns-3 c = let args = c .before .before .before .before .before .before .before .before .before .before .before .before .before .before .before .before .before .before .before .before .before .before .before .before .before .before .before .before .before .before .before .before .before .before .before .before .args in
-    open-done (keptIn (args .kept .now)) (args .x) (numbersIn (args .numbers .now)) (elementsIn (args .elements .now)) (queueIn (args .nodes .now)) (args .out .now)
-    _ _ _ (c .before .before .before .before .before .before .before .before .before .before .before .before .before .before .before .before .before .before .before .before .before .before .before .before .before .before .before .before .before .refuse-open .ensures .0) (c .before .before .before .before .before .before .before .before .before .before .before .before .before .before .before .before .before .before .before .before .before .before .before .before .before .before .before .before .if1 .left) (c .before .before .before .before .before .before .before .before .before .before .before .before .before .before .before .before .before .before .before .before .before .before .before .before .before .before .get .ensures) (c .before .before .before .before .before .before .before .before .before .before .before .before .before .before .before .before .before .before .before .before .before .before .before .before .get2 .ensures) _ _ _ _ _ _
-    (c .before .before .before .before .before .before .before .before .before .before .before .before .before .before .before .before .before .before .before .before .before .full .ensures) (c .before .before .before .before .before .before .before .before .before .before .before .before .before .before .before .before .before .before .before .before .if2 .left) (c .before .before .before .before .before .before .before .before .before .before .before .before .before .before .before .before .before .opening .ensures .0) (ap (λ k. k + 1) (c .before .before .before .before .before .before .before .before .before .before .before .before .before .get3 .ensures)) refl (c .before .before .before .before .before .before .before .before .before .before .join .ensures .0)
+returns-3 c = let at-join = c .before .before .before .before .before .before .before .before .before .before in
+    let at-get3 = at-join .before .before .before in
+    let at-opening = at-get3 .before .before .before .before in
+    let at-if2 = at-opening .before .before .before in
+    let at-full = at-if2 .before in
+    let at-get2 = at-full .before .before .before in
+    let at-get = at-get2 .before .before in
+    let at-if1 = at-get .before .before in
+    let at-refuse-open = at-if1 .before in
+    let start = at-refuse-open .before .before .before .before .before .before .before in
+    let args = start .args in
+    open-done (keptIn (args .kept .now)) (args .x) (numbersIn (args .numbers .now)) (elementsIn (args .elements .now)) (queueIn (args .nodes .now))
+    (args .out .now)
+    _ _ _ (at-refuse-open .refuse-open .ensures .0) (at-if1 .if1 .left) (at-get .get .ensures) (at-get2 .get2 .ensures) _ _ _ _ _ _
+    (at-full .full .ensures) (at-if2 .if2 .left) (at-opening .opening .ensures .0) (ap (λ k. k + 1) (at-get3 .get3 .ensures)) refl (at-join .join .ensures .0)
     (c .before .before .count-open .ensures)
 
 pub open-spec : {M : Type 1} → statement M

@@ -45,11 +45,13 @@ returns c = let sure = c .before .before in
     let front = sure .before .before .before in
     let pushed = front .before .before .before .before in
     let joins = pushed .before .before in
-    let start = joins .before .before .before .before .before .before .before in
-    (opening-told _ _ _ _ _ _ (start .pre .1 .0) (start .pre .1 .1) _ _ _ _ _ _ _ _ _ _ (joins .before .before .before .named .ensures)
-    (joins .before .possible-at .ensures) (joins .last-given .ensures) (pushed .push .ensures .0) (front .front-if .ensures .0)
-    (sure .before .before .steps .ensures)
-    (sure .sure-at .ensures) (c .before .last-given2 .ensures) (c .all-go .ensures), front .front-if .ensures .1)
+    let start = joins .before .before .before .before .before .before .before in (
+      opening-told _ _ _ _ _ _ (start .pre .1 .0) (start .pre .1 .1) _ _ _ _ _ _ _ _ _ _ (joins .before .before .before .named .ensures)
+          (joins .before .possible-at .ensures) (joins .last-given .ensures) (pushed .push .ensures .0) (front .front-if .ensures .0)
+          (sure .before .before .steps .ensures)
+          (sure .sure-at .ensures) (c .before .last-given2 .ensures) (c .all-go .ensures),
+      front .front-if .ensures .1,
+    )
 
 pub opening-spec : {M : Type 1} → statement M
 opening-spec =

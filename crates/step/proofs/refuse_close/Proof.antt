@@ -28,12 +28,21 @@ cast-depth c = search needs
 
 returns-2 : tie.Need-returns-2
 unfolding refuseClose
-returns-2 c = (pick-no _ _ _ _ (ended-no _ _ (c .before .before .before .get .ensures) (c .before .before .if1 .left)) (pick-yes _ _ _ _ (none-yes _ _ (c .before .get2 .ensures) (c .if2 .taken)) refl), λ e. absurd (omega arith))
+returns-2 c = let at-get = c .before .before .before in (
+  pick-no _ _ _ _ (ended-no _ _ (at-get .get .ensures) (c .before .before .if1 .left))
+      (pick-yes _ _ _ _ (none-yes _ _ (c .before .get2 .ensures) (c .if2 .taken)) refl),
+  λ e. absurd (omega arith),
+)
 
 returns-3 : tie.Need-returns-3
 unfolding refuseClose
-returns-3 c = (pick-no _ _ _ _ (ended-no _ _ (c .before .before .before .before .get .ensures) (c .before .before .before .if1 .left)) (pick-no _ _ _ _ (none-no _ _ (c .before .before .get2 .ensures) (c .before .if2 .left))
-    (pick-yes _ _ _ _ (past _ _ (c .before .before .get2 .ensures) _ (omega (arith, depth-is))) refl)), λ e. absurd (omega arith))
+returns-3 c = let at-if1 = c .before .before .before in
+    let at-get = at-if1 .before in (
+      pick-no _ _ _ _ (ended-no _ _ (at-get .get .ensures) (at-if1 .if1 .left))
+          (pick-no _ _ _ _ (none-no _ _ (c .before .before .get2 .ensures) (c .before .if2 .left))
+          (pick-yes _ _ _ _ (past _ _ (c .before .before .get2 .ensures) _ (omega (arith, depth-is))) refl)),
+      λ e. absurd (omega arith),
+    )
 
 sub-get : tie.Need-sub-get
 sub-get c = search needs
@@ -43,9 +52,17 @@ get-requires-3 c κs = omega (arith, depth-is)
 
 returns-4 : tie.Need-returns-4
 unfolding refuseClose
-returns-4 c = (pick-no _ _ _ _ (ended-no _ _ (c .before .before .before .before .before .before .get .ensures) (c .before .before .before .before .before .if1 .left)) (pick-no _ _ _ _ (none-no _ _ (c .before .before .before .before .get2 .ensures) (c .before .before .before .if2 .left))
-    (pick-no _ _ _ _ (within _ _ (c .before .before .before .before .get2 .ensures) mostOpen (omega (arith, depth-is)))
-    (pick-no _ _ _ _ (name-other (numbersIn (c .before .before .before .before .before .before .before .before .before .args .numbers .now)) (elementsIn (c .before .before .before .before .before .before .before .before .before .args .elements .now)) _ _ _ (c .before .before .before .before .get2 .ensures) (c .before .get3 .ensures) (c .if4 .taken)) refl))), λ e. absurd (omega arith))
+returns-4 c = let at-if2 = c .before .before .before in
+    let at-get2 = at-if2 .before in
+    let at-if1 = at-get2 .before in
+    let at-get = at-if1 .before in
+    let start = at-get .before .before .before in (
+      pick-no _ _ _ _ (ended-no _ _ (at-get .get .ensures) (at-if1 .if1 .left)) (pick-no _ _ _ _ (none-no _ _ (at-get2 .get2 .ensures) (at-if2 .if2 .left))
+          (pick-no _ _ _ _ (within _ _ (at-get2 .get2 .ensures) mostOpen (omega (arith, depth-is)))
+          (pick-no _ _ _ _ (name-other (numbersIn (start .args .numbers .now)) (elementsIn (start .args .elements .now)) _ _ _ (at-get2 .get2 .ensures)
+          (c .before .get3 .ensures) (c .if4 .taken)) refl))),
+      λ e. absurd (omega arith),
+    )
 
 get-requires-4 : tie.Need-get-requires-4
 get-requires-4 c κs = search needs
@@ -55,21 +72,39 @@ cast-if5 c = search needs
 
 returns-5 : tie.Need-returns-5
 unfolding refuseClose
-returns-5 c = (pick-no _ _ _ _ (ended-no _ _ (c .before .before .before .before .before .before .before .before .get .ensures) (c .before .before .before .before .before .before .before .if1 .left)) (pick-no _ _ _ _ (none-no _ _ (c .before .before .before .before .before .before .get2 .ensures) (c .before .before .before .before .before .if2 .left))
-    (pick-no _ _ _ _ (within _ _ (c .before .before .before .before .before .before .get2 .ensures) mostOpen (omega (arith, depth-is)))
-    (pick-yes _ _ _ _ (name-same (numbersIn (c .before .before .before .before .before .before .before .before .before .before .before .args .numbers .now)) (elementsIn (c .before .before .before .before .before .before .before .before .before .before .before .args .elements .now)) _ _ _ (c .before .before .before .before .before .before .get2 .ensures) (c .before .before .before .get3 .ensures) (c .before .before .if4 .left))
-    (pick-yes _ _ _ _ (past _ _ (c .before .get4 .ensures) mostHeld (omega (arith, held-is))) refl)))), λ e. absurd (omega arith))
+returns-5 c = let at-get3 = c .before .before .before in
+    let at-if2 = at-get3 .before .before in
+    let at-get2 = at-if2 .before in
+    let at-if1 = at-get2 .before in
+    let at-get = at-if1 .before in
+    let start = at-get .before .before .before in (
+      pick-no _ _ _ _ (ended-no _ _ (at-get .get .ensures) (at-if1 .if1 .left)) (pick-no _ _ _ _ (none-no _ _ (at-get2 .get2 .ensures) (at-if2 .if2 .left))
+          (pick-no _ _ _ _ (within _ _ (at-get2 .get2 .ensures) mostOpen (omega (arith, depth-is)))
+          (pick-yes _ _ _ _ (name-same (numbersIn (start .args .numbers .now)) (elementsIn (start .args .elements .now)) _ _ _ (at-get2 .get2 .ensures)
+          (at-get3 .get3 .ensures) (c .before .before .if4 .left))
+          (pick-yes _ _ _ _ (past _ _ (c .before .get4 .ensures) mostHeld (omega (arith, held-is))) refl)))),
+      λ e. absurd (omega arith),
+    )
 
 returns-6 : tie.Need-returns-6
 unfolding refuseClose
-returns-6 c = (pick-no _ _ _ _ (ended-no _ _ (c .before .before .before .before .before .before .before .before .get .ensures) (c .before .before .before .before .before .before .before .if1 .left)) (pick-no _ _ _ _ (none-no _ _ (c .before .before .before .before .before .before .get2 .ensures) (c .before .before .before .before .before .if2 .left))
-    (pick-no _ _ _ _ (within _ _ (c .before .before .before .before .before .before .get2 .ensures) mostOpen (omega (arith, depth-is)))
-    (pick-yes _ _ _ _ (name-same (numbersIn (c .before .before .before .before .before .before .before .before .before .before .before .args .numbers .now)) (elementsIn (c .before .before .before .before .before .before .before .before .before .before .before .args .elements .now)) _ _ _ (c .before .before .before .before .before .before .get2 .ensures) (c .before .before .before .get3 .ensures) (c .before .before .if4 .left))
-    (pick-no _ _ _ _ (within _ _ (c .before .get4 .ensures) mostHeld (omega (arith, held-is))) refl)))), λ e. record {
-      some = positive _ (λ z. c .before .before .before .before .before .if2 .left (c .before .before .before .before .before .before .get2 .ensures ∙ z));
-      deep = omega (arith, depth-is, c .before .before .before .before .before .before .get2 .ensures);
-      held = omega (arith, held-is, c .before .get4 .ensures);
-    })
+returns-6 c = let at-get3 = c .before .before .before in
+    let at-if2 = at-get3 .before .before in
+    let at-get2 = at-if2 .before in
+    let at-if1 = at-get2 .before in
+    let at-get = at-if1 .before in
+    let start = at-get .before .before .before in (
+      pick-no _ _ _ _ (ended-no _ _ (at-get .get .ensures) (at-if1 .if1 .left)) (pick-no _ _ _ _ (none-no _ _ (at-get2 .get2 .ensures) (at-if2 .if2 .left))
+          (pick-no _ _ _ _ (within _ _ (at-get2 .get2 .ensures) mostOpen (omega (arith, depth-is)))
+          (pick-yes _ _ _ _ (name-same (numbersIn (start .args .numbers .now)) (elementsIn (start .args .elements .now)) _ _ _ (at-get2 .get2 .ensures)
+          (at-get3 .get3 .ensures) (c .before .before .if4 .left))
+          (pick-no _ _ _ _ (within _ _ (c .before .get4 .ensures) mostHeld (omega (arith, held-is))) refl)))),
+      λ e. record {
+        some = positive _ (λ z. at-if2 .if2 .left (at-get2 .get2 .ensures ∙ z));
+        deep = omega (arith, depth-is, at-get2 .get2 .ensures);
+        held = omega (arith, held-is, c .before .get4 .ensures);
+      },
+    )
 
 pub refuse-close-spec : {M : Type 1} → statement M
 refuse-close-spec =

@@ -24,17 +24,23 @@ cast-if2 c = search needs
 
 returns-2 : tie.Need-returns-2
 unfolding refuseOpen
-returns-2 c = (pick-no _ _ _ _ (ended-no _ _ (c .before .before .before .get .ensures) (c .before .before .if1 .left))
-    (pick-yes _ _ _ _ (at-least _ _ (c .before .get2 .ensures) _ (omega (arith, depth-is))) refl), λ e. absurd (omega arith))
+returns-2 c = (
+  pick-no _ _ _ _ (ended-no _ _ (c .before .before .before .get .ensures) (c .before .before .if1 .left))
+      (pick-yes _ _ _ _ (at-least _ _ (c .before .get2 .ensures) _ (omega (arith, depth-is))) refl),
+  λ e. absurd (omega arith),
+)
 
 get-requires-3 : tie.Need-get-requires-3
 get-requires-3 c κs = search needs
 
 returns-3 : tie.Need-returns-3
 unfolding refuseOpen
-returns-3 c = (pick-no _ _ _ _ (ended-no _ _ (c .before .before .before .before .before .get .ensures) (c .before .before .before .before .if1 .left))
-    (pick-no _ _ _ _ (less _ _ (c .before .before .before .get2 .ensures) _ (omega (arith, depth-is)))
-    (pick-yes _ _ _ _ (at-least _ _ (c .before .get3 .ensures) _ (c .if3 .taken)) refl)), λ e. absurd (omega arith))
+returns-3 c = (
+  pick-no _ _ _ _ (ended-no _ _ (c .before .before .before .before .before .get .ensures) (c .before .before .before .before .if1 .left))
+      (pick-no _ _ _ _ (less _ _ (c .before .before .before .get2 .ensures) _ (omega (arith, depth-is)))
+      (pick-yes _ _ _ _ (at-least _ _ (c .before .get3 .ensures) _ (c .if3 .taken)) refl)),
+  λ e. absurd (omega arith),
+)
 
 get-requires-4 : tie.Need-get-requires-4
 get-requires-4 c κs = search needs
@@ -44,21 +50,33 @@ cast-if4 c = search needs
 
 returns-4 : tie.Need-returns-4
 unfolding refuseOpen
-returns-4 c = (pick-no _ _ _ _ (ended-no _ _ (c .before .before .before .before .before .before .before .get .ensures) (c .before .before .before .before .before .before .if1 .left))
-    (pick-no _ _ _ _ (less _ _ (c .before .before .before .before .before .get2 .ensures) _ (omega (arith, depth-is)))
-    (pick-no _ _ _ _ (less _ _ (c .before .before .before .get3 .ensures) _ (c .before .before .if3 .left))
-    (pick-yes _ _ _ _ (past _ _ (c .before .get4 .ensures) _ (omega (arith, held-is))) refl))), λ e. absurd (omega arith))
+returns-4 c = let at-get3 = c .before .before .before in
+    let at-get2 = at-get3 .before .before in
+    let at-if1 = at-get2 .before in
+    let at-get = at-if1 .before in (
+      pick-no _ _ _ _ (ended-no _ _ (at-get .get .ensures) (at-if1 .if1 .left))
+          (pick-no _ _ _ _ (less _ _ (at-get2 .get2 .ensures) _ (omega (arith, depth-is)))
+          (pick-no _ _ _ _ (less _ _ (at-get3 .get3 .ensures) _ (c .before .before .if3 .left))
+          (pick-yes _ _ _ _ (past _ _ (c .before .get4 .ensures) _ (omega (arith, held-is))) refl))),
+      λ e. absurd (omega arith),
+    )
 
 returns-5 : tie.Need-returns-5
 unfolding refuseOpen
-returns-5 c = (pick-no _ _ _ _ (ended-no _ _ (c .before .before .before .before .before .before .before .get .ensures) (c .before .before .before .before .before .before .if1 .left))
-    (pick-no _ _ _ _ (less _ _ (c .before .before .before .before .before .get2 .ensures) _ (omega (arith, depth-is)))
-    (pick-no _ _ _ _ (less _ _ (c .before .before .before .get3 .ensures) _ (c .before .before .if3 .left))
-    (pick-no _ _ _ _ (within _ _ (c .before .get4 .ensures) _ (omega (arith, held-is))) refl))), λ e. record {
-      deep = omega (arith, depth-is, c .before .before .before .before .before .get2 .ensures);
-      few = omega (arith, c .before .before .before .get3 .ensures);
-      held = omega (arith, held-is, c .before .get4 .ensures);
-    })
+returns-5 c = let at-get3 = c .before .before .before in
+    let at-get2 = at-get3 .before .before in
+    let at-if1 = at-get2 .before in
+    let at-get = at-if1 .before in (
+      pick-no _ _ _ _ (ended-no _ _ (at-get .get .ensures) (at-if1 .if1 .left))
+          (pick-no _ _ _ _ (less _ _ (at-get2 .get2 .ensures) _ (omega (arith, depth-is)))
+          (pick-no _ _ _ _ (less _ _ (at-get3 .get3 .ensures) _ (c .before .before .if3 .left))
+          (pick-no _ _ _ _ (within _ _ (c .before .get4 .ensures) _ (omega (arith, held-is))) refl))),
+      λ e. record {
+        deep = omega (arith, depth-is, at-get2 .get2 .ensures);
+        few = omega (arith, at-get3 .get3 .ensures);
+        held = omega (arith, held-is, c .before .get4 .ensures);
+      },
+    )
 
 pub refuse-open-spec : {M : Type 1} → statement M
 refuse-open-spec =

@@ -52,9 +52,14 @@ same-length-4 c = search needs
 
 returns : tie.Need-returns
 unfolding step
-returns c = let args = c .before .before .before .before .before .before .before .before .before .before .before .before .before .before .before .before .before .before .before .before .before .before .before .args in
-    step-read-as (keptIn (args .kept .now)) (args .bytes .now) _ (numbersIn (args .numbers .now)) (elementsIn (args .elements .now)) (queueIn (args .nodes .now)) (args .out .now) _
-    (sym (c .before .before .before .before .before .before .before .before .before .before .before .before .before .before .event .given .1) ∙ c .before .before .before .before .before .before .before .before .before .before .before .before .before .before .before .before .read-event .ensures) (c .before .before .before .before .before .before .before .before .«open» .ensures)
+returns c = let at-before = c .before .before .before .before .before .before .before in
+    let at-event = at-before .before .before .before .before .before .before .before in
+    let at-read-event = at-event .before .before in
+    let start = at-read-event .before .before .before .before .before .before .before in
+    let args = start .args in
+    step-read-as (keptIn (args .kept .now)) (args .bytes .now) _ (numbersIn (args .numbers .now)) (elementsIn (args .elements .now))
+    (queueIn (args .nodes .now)) (args .out .now) _
+    (sym (at-event .event .given .1) ∙ at-read-event .read-event .ensures) (c .before .before .before .before .before .before .before .before .«open» .ensures)
 
 same-length-5 : tie.Need-same-length-5
 same-length-5 c = search needs
@@ -70,15 +75,23 @@ same-length-8 c = search needs
 
 returns-2 : tie.Need-returns-2
 unfolding step
-returns-2 c = let args = c .before .before .before .before .before .before .before .before .before .before .before .before .before .before .before .before .before .before .before .before .before .args in
-    step-read-as (keptIn (args .kept .now)) (args .bytes .now) _ (numbersIn (args .numbers .now)) (elementsIn (args .elements .now)) (queueIn (args .nodes .now)) (args .out .now) _
-    (sym (c .before .before .before .before .before .before .before .before .before .before .before .before .event2 .given .1) ∙ c .before .before .before .before .before .before .before .before .before .before .before .before .before .before .read-event .ensures) (c .before .before .before .before .before .before .close .ensures)
+returns-2 c = let at-close = c .before .before .before .before .before .before in
+    let at-event2 = at-close .before .before .before .before .before .before in
+    let at-read-event = at-event2 .before .before in
+    let start = at-read-event .before .before .before .before .before .before .before in
+    let args = start .args in
+    step-read-as (keptIn (args .kept .now)) (args .bytes .now) _ (numbersIn (args .numbers .now)) (elementsIn (args .elements .now))
+    (queueIn (args .nodes .now)) (args .out .now) _
+    (sym (at-event2 .event2 .given .1) ∙ at-read-event .read-event .ensures) (at-close .close .ensures)
 
 returns-3 : tie.Need-returns-3
 unfolding step
-returns-3 c = let args = c .before .before .before .before .before .before .before .before .before .before .args in
-    step-read-as (keptIn (args .kept .now)) (args .bytes .now) _ (numbersIn (args .numbers .now)) (elementsIn (args .elements .now)) (queueIn (args .nodes .now)) (args .out .now) _
-    (sym (c .before .enum-told .given .1) ∙ c .before .before .before .read-event .ensures) (refused-as _ _ _ _ _ _ (c .refused .ensures))
+returns-3 c = let at-read-event = c .before .before .before in
+    let start = at-read-event .before .before .before .before .before .before .before in
+    let args = start .args in
+    step-read-as (keptIn (args .kept .now)) (args .bytes .now) _ (numbersIn (args .numbers .now)) (elementsIn (args .elements .now))
+    (queueIn (args .nodes .now)) (args .out .now) _
+    (sym (c .before .enum-told .given .1) ∙ at-read-event .read-event .ensures) (refused-as _ _ _ _ _ _ (c .refused .ensures))
 
 pub step-spec : {M : Type 1} → statement M
 step-spec =

@@ -42,7 +42,8 @@ use Rattle.nodes.specs.declared.Going.{Going}
 use Rattle.nodes.specs.Nodes.{levelOf, Moved, movedFrom, Handed, handedOut, Joined, joined}
 use Rattle.numbers.specs.Numbers.{Numbers, numbersOf}
 use Rattle.step.specs.declared.Stepped.{Stepped}
-use Rattle.step.specs.Step.{outputNeeded, refuseOpen, refuseClose, usedIn, goingOf, Opened, openedBy, openingIn, allGo, noPlace, overIn, After, after, refusedWith}
+use Rattle.step.specs.Step.{outputNeeded, refuseOpen, refuseClose, usedIn, goingOf, Opened, openedBy, openingIn, allGo, noPlace}
+use Rattle.step.specs.Step.{overIn, After, after, refusedWith}
 use Rattle.step.specs.Step.{openNumbers, openWith, openBy, openTaken, onOpen}
 use Rattle.step.specs.Step.{closeNumbers, movedOutFrom, movedOut, closeWith, closeOut, closeBy, closeTaken, onClose, step}
 

@@ -1,3 +1,4 @@
+-- What the bytes of one place come to (crate words, word) is the number that Words.Laws finds there. Assumes nothing.
 use Rattle.words.specs.Words.Laws.{words-at}
 use mathlib.Core.Path.{_∙_}
 use borrow.Author.Needs.{needs}

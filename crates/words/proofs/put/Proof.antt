@@ -1,3 +1,4 @@
+-- Four writes of a byte are one write of a number (Words.Laws); each byte is in its place. Assumes nothing.
 use Rattle.words.specs.Words.Laws.{words-put}
 use lib.ListN.{length-set}
 use native.Mathlib.Omega.{arith}

@@ -1,0 +1,9 @@
+pub mod Need
+pub mod Engine
+pub mod Queue
+pub mod StateOf
+pub mod Every
+pub mod Hom
+pub mod MaskOps
+pub mod Quick
+pub mod Trial

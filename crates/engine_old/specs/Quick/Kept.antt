@@ -1,0 +1,89 @@
+-- Frames that agree with one another, as those of a document do: the reason why what has not changed need not be computed again.
+--
+--   Fed O B fs         under an element with B met in it: what each frame comes to has been joined to what is met above it
+--   Turned O r fs      in the sure reading each frame is read with the turn of the one above, the first with r's
+--   fed-masks, turned-masks      the frames of a document agree so, in masks
+--
+-- Assumes T (admits q).
+use Prim.Native.Nat.{ℕ}
+use mathlib.Core.Path.{_≡_, refl, sym, ap, _∙_, subst}
+use mathlib.Core.Bool.{Bool, true, false, _||_}
+use mathlib.Core.List.{List, [], _∷_, map}
+use lib.Dec.{T}
+use Rattle.meaning.specs.Query.{Query, Steps, admits}
+use Rattle.meaning.specs.Document.{Doc, done, within}
+use Rattle.meaning.specs.Selection.{sure-reading, granted, join, met, Ready, ReadyOf, start}
+use Rattle.plan.specs.Any.{sets-ext}
+use Rattle.engine_old.specs.Need.{NeedOf}
+use Rattle.engine_old.specs.Engine.{Ops, Frame}
+use Rattle.engine_old.specs.StateOf.{ops, framesOf, framesAt, stateOf}
+use Rattle.engine_old.specs.Hom.{Coat, frameIn, Hom}
+use Rattle.plan.specs.Order.{order, mask}
+use Rattle.plan.specs.Plan.{plan}
+use Rattle.engine_old.specs.MaskOps.{maskOps, masks, maskState}
+use Rattle.engine_old.specs.MaskOps.Laws.{mask-hom}
+
+module _ {S R N : Type 0} (O : Ops S R N) where
+  pub data Fed : S → List (Frame S R) → Type 0 where
+    fNil : {B : S} → Fed B []
+    fCons :
+        {B : S} {f : Frame S R} {fs : List (Frame S R)} → O .join B (O .lift (O .meets (f .node) (f .below)) (f .below)) ≡ B →
+        Fed (f .below) fs → Fed B (f ∷ fs)
+
+  pub data Turned : R → List (Frame S R) → Type 0 where
+    tNil : {r : R} → Turned r []
+    tCons :
+        {r : R} {f : Frame S R} {fs : List (Frame S R)} → f .sure ≡ O .turn (O .meets (f .node) (f .below)) r →
+        Turned (f .sure) fs → Turned r (f ∷ fs)
+
+-- of a document
+
+join-again : (A B : Steps) → join (join A B) B ≡ join A B
+unfolding join
+join-again A B = sets-ext (λ st s. again (A st s) (B st s))
+  where
+    again : (a b : Bool) → ((a || b) || b) ≡ (a || b)
+    again true b = refl
+    again false true = refl
+    again false false = refl
+
+fed-of : (q : Query) (d : Doc) (rs rp : Ready) → Fed (ops q) (met q sure-reading d) (framesOf q d rs rp)
+unfolding framesOf met granted
+fed-of q (done f) rs rp = fNil
+fed-of q (within p x d) rs rp = fCons (join-again _ _) (fed-of q d _ _)
+
+turned-of : (q : Query) (d : Doc) (rs rp : Ready) → Turned (ops q) rs (framesOf q d rs rp)
+unfolding framesOf
+turned-of q (done f) rs rp = tNil
+turned-of q (within p x d) rs rp = tCons refl (turned-of q d _ _)
+
+-- in another coat
+
+module _ {S R N S′ R′ N′ : Type 0} (O : Ops S R N) (P : Ops S′ R′ N′) (k : Coat S R N S′ R′ N′) (h : Hom O P k) where
+  fed-hom : {B : S} {fs : List (Frame S R)} → Fed O B fs → Fed P (k .set B) (map (frameIn k) fs)
+  fed-hom fNil = fNil
+  fed-hom (fCons {B} {f} e t) =
+      fCons
+      (ap (P .join (k .set B)) (sym (h .lift _ _ ∙ ap (λ x. P .lift x (k .set (f .below))) (h .meets (f .node) (f .below))))
+      ∙ sym (h .join B _)
+      ∙ ap (k .set) e)
+      (fed-hom t)
+
+  turned-hom : {r : R} {fs : List (Frame S R)} → Turned O r fs → Turned P (k .ready r) (map (frameIn k) fs)
+  turned-hom tNil = tNil
+  turned-hom (tCons {r} {f} e t) =
+      tCons (ap (k .ready) e ∙ h .turn _ r ∙ ap (λ x. P .turn x (k .ready r)) (h .meets (f .node) (f .below))) (turned-hom t)
+
+module _ (q : Query) (a : T (admits q)) (d : Doc) where
+  abbrev O : Ops ℕ (ReadyOf ℕ) (NeedOf ℕ)
+  O = maskOps (plan q)
+
+  pub fed-masks : Fed O (mask (order q) (met q sure-reading d)) (maskState q d .frames)
+  unfolding maskState stateOf framesAt
+  fed-masks = fed-hom (ops q) O (masks q) (mask-hom q a) (fed-of q d start start)
+
+  pub turned-masks : Turned O (O .start) (maskState q d .frames)
+  unfolding maskState stateOf framesAt
+  turned-masks =
+      subst (λ r. Turned O r (map (frameIn (masks q)) (framesOf q d start start))) (mask-hom q a .start)
+      (turned-hom (ops q) O (masks q) (mask-hom q a) (turned-of q d start start))

@@ -1,0 +1,1 @@
+// The engine as pure functions has no code: everything is in specs/.
