@@ -2,6 +2,7 @@
 --
 --   Seat, seat n E N         what a step is taken at: the numbers and both rooms
 --   stepAt P s bytes out     one step (crate step), as what one event comes to
+--   step-came                what a step answered, as what one event comes to
 --   FeedGives P s es out r s′ out′      THE PROMISE of `feed`: its result r, the numbers and rooms s′ and the buffer out′ on return are what single steps come to
 --   feed-one                 two results that it allows are equal, and so is all that was lent
 --
@@ -33,6 +34,12 @@ cameTo a = record { refusal = a .refusal; given = a .given; seat = seat (a .numb
 
 unfoldable pub stepAt : Plan → Seat → List ℕ → List ℕ → Came Seat
 stepAt P s bytes out = cameTo (step P (shown (eventOf bytes)) (s .numbers) (s .elements) (s .nodes) out)
+
+pub step-came :
+    (P : Plan) (n : Numbers) (E : Elements) (N : Queue) (bytes out : List ℕ) (a : After) → a ≡ step P (shown (eventOf bytes)) n E N out →
+    cameTo a ≡ stepAt P (seat n E N) bytes out
+unfolding stepAt
+step-came P n E N bytes out a e = ap cameTo e
 
 abbrev pub FeedGives : Plan → Seat → List ℕ → List ℕ → struct.Fed → Seat → List ℕ → Type 0
 FeedGives P s es out r s′ out′ =

@@ -1,7 +1,7 @@
 // One event on lent bytes: the refusals in the order of their numbers, one dispatch on the event's kind, an open and a close. Everything is lent: what is
 // kept of the query (crate plan_bytes), the session's numbers (numbers), the open elements (elements), the waiting nodes (nodes) and the output buffer.
 ghost use mathlib.Core.Path.{_≡_};
-ghost use Prim.Native.Nat.{_≤_, _<_};
+ghost use Prim.Native.Nat.{_*_, _≤_, _<_};
 ghost use lib.ListN.{length};
 ghost use Rattle.meaning.specs.Record.{eventOf};
 ghost use Rattle.records.specs.Read.{shown};
@@ -235,6 +235,7 @@ fn open(
         (queueIn (now (nodes .exit))) (now (out .exit))
         ≡ onOpen (keptIn (now (kept .entry))) x (numbersIn (now (numbers .entry))) (elementsIn (now (elements .entry)))
         (queueIn (now (nodes .entry))) (now (out .entry)) ⌝ }
+    ensures { λ r. ⌜ 4 * r .given ≤ outputNeeded ⌝ }
 {
     let refusal = refuse_open(&*numbers);
     if refusal != 0 {
@@ -271,6 +272,7 @@ fn close(
         (queueIn (now (nodes .exit))) (now (out .exit))
         ≡ onClose (keptIn (now (kept .entry))) x (numbersIn (now (numbers .entry))) (elementsIn (now (elements .entry)))
         (queueIn (now (nodes .entry))) (now (out .entry)) ⌝ }
+    ensures { λ r. ⌜ 4 * r .given ≤ outputNeeded ⌝ }
 {
     let refusal = refuse_close(&*numbers, elements, x);
     if refusal != 0 {
@@ -303,6 +305,7 @@ pub fn step(
         (queueIn (now (nodes .exit))) (now (out .exit))
         ≡ step (keptIn (now (kept .entry))) (shown (eventOf (now (bytes .entry)))) (numbersIn (now (numbers .entry))) (elementsIn (now (elements .entry)))
         (queueIn (now (nodes .entry))) (now (out .entry)) ⌝ }
+    ensures { λ r. ⌜ 4 * r .given ≤ outputNeeded ⌝ }
 {
     let event = records::read_event(bytes);
     match event {

@@ -1,92 +1,134 @@
+-- The invariant says that the events so far are a first part of the block (Fed.Laws). Assumes nothing.
 use borrow.Author.Needs.{needs}
+use native.Mathlib.Omega.{arith}
+use native.Mathlib.Nat.{le-refl}
+use Prim.Native.Nat.{_+_, _-_, _*_, _/_, _≤_}
+use mathlib.Core.Path.{_≡_, refl}
+use mir.Val.{boolByte}
+use lib.Dec.{eqb}
+use lib.ListN.{length}
+use Rattle.element.specs.Element.{elementsIn}
+use Rattle.node.specs.Node.{queueIn}
+use Rattle.numbers.specs.Numbers.{numbersIn}
+use Rattle.plan_bytes.specs.Kept.{keptIn}
+use Rattle.feed.specs.Fed.{Underway}
+use Rattle.feed.specs.Fed.Laws.{goes-true, counted-less, none-underway, turn-underway, underway-done, rest-wide}
+use Rattle.feed.specs.Steps.{seat, stepAt, step-came}
 use Rattle.feed.proofs.feed.Statement.{statement}
 use Rattle.feed.proofs.feed.Tie as tie
 
 abbrev Inv-loop : tie.InvT-loop
 Inv-loop kept events numbers₀ elements₀ nodes₀ out₀ taken₀ listed₀ refusal₀ numbers elements nodes out taken listed refusal =
-    ?
+    (length numbers ≡ length numbers₀) × ((length elements ≡ length elements₀) × ((length nodes ≡ length nodes₀) ×
+    Underway (stepAt (keptIn kept)) (seat (numbersIn numbers₀) (elementsIn elements₀) (queueIn nodes₀)) events out₀
+    (record { seat = seat (numbersIn numbers) (elementsIn elements) (queueIn nodes); taken = taken; listed = listed; refusal = refusal; out = out })))
 
 abbrev μ-loop : tie.MeasureT-loop
 μ-loop kept events numbers₀ elements₀ nodes₀ out₀ taken₀ listed₀ refusal₀ numbers elements nodes out taken listed refusal =
-    ?
+    length events / 8 - taken + boolByte (eqb refusal 0)
 
 loop-holds : tie.Need-loop-holds Inv-loop μ-loop
-loop-holds c = ?
+loop-holds c = let args = c .before .before .before .before .before .before .args in
+    (refl, (refl, (refl, none-underway (stepAt (keptIn (args .kept .now))) _ (args .events .now) (args .out .now))))
 
 sub-goes-on : tie.Need-sub-goes-on Inv-loop μ-loop
-sub-goes-on c = search needs
+sub-goes-on c = c .loop .inv .1 .1 .1 .within
 
 mul-goes-on : tie.Need-mul-goes-on Inv-loop μ-loop
-mul-goes-on c = search needs
+mul-goes-on c = let h = c .loop .inv .1 .1 .1 .fits in search needs
 
 sub-goes-on-2 : tie.Need-sub-goes-on-2 Inv-loop μ-loop
-sub-goes-on-2 c = search needs
+sub-goes-on-2 c = c .loop .inv .1 .1 .1 .fits
 
 goes-on-requires : tie.Need-goes-on-requires Inv-loop μ-loop
 goes-on-requires c κs = search needs
 
 mul-at : tie.Need-mul-at Inv-loop μ-loop
-mul-at c = search needs
+mul-at c = let h = c .before .before .loop .inv .1 .1 .1 .within in search needs
 
 add-end : tie.Need-add-end Inv-loop μ-loop
-add-end c = search needs
+add-end c = let g = goes-true _ _ _ _ (c .before .goes-on .ensures) (c .if1 .taken) in omega (arith, g .more, c .before .before .before .before .before .before .before .before .before .good .1 .0 .0)
 
 mul-from : tie.Need-mul-from Inv-loop μ-loop
-mul-from c = search needs
+mul-from c = let h = c .before .before .loop .inv .1 .1 .1 .fits in search needs
 
 sub-step : tie.Need-sub-step Inv-loop μ-loop
 sub-step c = search needs
 
 part-step-start : tie.Need-part-step-start Inv-loop μ-loop
-part-step-start c = search needs
+part-step-start c = omega arith
 
 part-step-end : tie.Need-part-step-end Inv-loop μ-loop
-part-step-end c = search needs
+part-step-end c = let g = goes-true _ _ _ _ (c .before .goes-on .ensures) (c .if1 .taken) in omega (arith, g .more)
 
 sub-step-2 : tie.Need-sub-step-2 Inv-loop μ-loop
-sub-step-2 c = search needs
+sub-step-2 c = c .before .before .before .before .before .before .loop .inv .1 .1 .1 .fits
 
 part-step-start-2 : tie.Need-part-step-start-2 Inv-loop μ-loop
-part-step-start-2 c = search needs
+part-step-start-2 c = c .before .before .before .before .before .before .loop .inv .1 .1 .1 .fits
 
 part-step-end-2 : tie.Need-part-step-end-2 Inv-loop μ-loop
-part-step-end-2 c = search needs
+part-step-end-2 c = le-refl _
 
 step-requires : tie.Need-step-requires Inv-loop μ-loop
-step-requires c κs = search needs
+step-requires c κs = let goes = goes-true _ _ _ _ (c .before .before .before .before .before .before .goes-on .ensures) (c .before .before .before .before .before .if1 .taken) in
+    let inv = c .before .before .before .before .before .before .before .loop .inv in
+    let p = c .before .before .before .before .before .before .before .before .before .before .before .before .before .before .pre in
+    ((p .0 .0, omega (arith, inv .0, p .0 .1)), (omega (arith, inv .1 .0, p .1 .0), (omega (arith, inv .1 .1 .0, p .1 .1), rest-wide (4 * c .before .before .before .before .before .before .before .loop .listed) _ (c .before .before .before .before .before .before .before .loop .out) (goes .wide))))
 
 cast-listed : tie.Need-cast-listed Inv-loop μ-loop
 cast-listed c = search needs
 
 add-listed : tie.Need-add-listed Inv-loop μ-loop
-add-listed c = search needs
+add-listed c = let stepped = c .before .before .before .before .before .before .before .before .before in
+    let at-loop = c .before .before .before .before .before .before .before .before .before .before .before .before .before .before .before .before .before in
+    let u = at-loop .loop .inv .1 .1 .1 in
+    let goes = goes-true _ _ _ _ (c .before .before .before .before .before .before .before .before .before .before .before .before .before .before .before .before .goes-on .ensures) (c .before .before .before .before .before .before .before .before .before .before .before .before .before .before .before .if1 .taken) in
+    let args = c .before .before .before .before .before .before .before .before .before .before .before .before .before .before .before .before .before .before .before .before .before .before .before .before .args in
+    let turn = turn-underway _ _ _ _ _ u goes _ (step-came (keptIn (args .kept .now)) _ _ _ _ _ _ (stepped .step .ensures .0)) (search needs) (stepped .step .ensures .1) in
+    omega (arith, turn .fits, turn .long, c .before .before .before .before .before .before .before .before .before .before .before .before .before .before .before .before .before .before .before .before .before .before .before .before .good .1 .1 .1 .1 .1 .0)
 
 cast-taken : tie.Need-cast-taken Inv-loop μ-loop
 cast-taken c = search needs
 
 add-taken : tie.Need-add-taken Inv-loop μ-loop
-add-taken c = search needs
+add-taken c = let stepped = c .before .before .before .before .before .before .before .before .before in
+    let at-loop = c .before .before .before .before .before .before .before .before .before .before .before .before .before .before .before .before .before in
+    let u = at-loop .loop .inv .1 .1 .1 in
+    let goes = goes-true _ _ _ _ (c .before .before .before .before .before .before .before .before .before .before .before .before .before .before .before .before .goes-on .ensures) (c .before .before .before .before .before .before .before .before .before .before .before .before .before .before .before .if1 .taken) in
+    let args = c .before .before .before .before .before .before .before .before .before .before .before .before .before .before .before .before .before .before .before .before .before .before .before .before .args in
+    let turn = turn-underway _ _ _ _ _ u goes _ (step-came (keptIn (args .kept .now)) _ _ _ _ _ _ (stepped .step .ensures .0)) (search needs) (stepped .step .ensures .1) in
+    omega (arith, turn .within, c .before .before .before .before .before .before .before .before .before .before .before .before .before .before .before .before .before .before .before .before .before .before .before .before .good .1 .0)
 
 loop-less : tie.Need-loop-less Inv-loop μ-loop
-loop-less c = search needs
+loop-less c = let goes = goes-true _ _ _ _ (c .before .before .before .before .before .before .before .before .before .before .before .before .before .before .before .before .goes-on .ensures) (c .before .before .before .before .before .before .before .before .before .before .before .before .before .before .before .if1 .taken) in
+    let events = c .before .before .before .before .before .before .before .before .before .before .before .before .before .before .before .before .before .before .before .before .before .before .before .before .args .events .now in
+    counted-less (length events / 8) (c .before .before .before .before .before .before .before .before .before .before .before .before .before .before .before .before .before .loop .taken) (c .before .before .before .before .before .before .before .before .before .before .before .before .before .before .before .before .before .loop .refusal) (c .before .before .before .before .before .before .before .before .before .step .result .refusal) (goes .unrefused) (omega (arith, goes .more))
 
 loop-again : tie.Need-loop-again Inv-loop μ-loop
-loop-again c = ?
+loop-again c = let stepped = c .before .before .before .before .before .before .before .before .before in
+    let at-loop = c .before .before .before .before .before .before .before .before .before .before .before .before .before .before .before .before .before in
+    let u = at-loop .loop .inv .1 .1 .1 in
+    let goes = goes-true _ _ _ _ (c .before .before .before .before .before .before .before .before .before .before .before .before .before .before .before .before .goes-on .ensures) (c .before .before .before .before .before .before .before .before .before .before .before .before .before .before .before .if1 .taken) in
+    let args = c .before .before .before .before .before .before .before .before .before .before .before .before .before .before .before .before .before .before .before .before .before .before .before .before .args in
+    let turn = turn-underway _ _ _ _ _ u goes _ (step-came (keptIn (args .kept .now)) _ _ _ _ _ _ (stepped .step .ensures .0)) (search needs) (stepped .step .ensures .1) in
+    (search needs, (search needs, (search needs, turn)))
 
 same-length : tie.Need-same-length Inv-loop μ-loop
-same-length c = search needs
+same-length c = c .before .before .loop .inv .0
 
 same-length-2 : tie.Need-same-length-2 Inv-loop μ-loop
-same-length-2 c = search needs
+same-length-2 c = c .before .before .loop .inv .1 .0
 
 same-length-3 : tie.Need-same-length-3 Inv-loop μ-loop
-same-length-3 c = search needs
+same-length-3 c = c .before .before .loop .inv .1 .1 .0
 
 same-length-4 : tie.Need-same-length-4 Inv-loop μ-loop
-same-length-4 c = search needs
+same-length-4 c = c .before .before .loop .inv .1 .1 .1 .long
 
 returns : tie.Need-returns Inv-loop μ-loop
-returns c = ?
+returns c = let u = c .before .before .loop .inv .1 .1 .1 in
+    (underway-done _ _ _ _ _ u _ (c .before .goes-on .ensures) (c .if1 .left), (omega (arith, u .within), u .fits))
 
 pub feed-spec : {M : Type 1} → statement M
 feed-spec =

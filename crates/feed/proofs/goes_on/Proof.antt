@@ -1,14 +1,29 @@
+-- Test by test as its model. Assumes nothing.
+use borrow.Author.Needs.{needs}
+use native.Mathlib.Omega.{arith}
+use mathlib.Core.Path.{refl, ap, sym, _∙_}
+use mathlib.Core.Bool.{false}
+use lib.Dec.{leb}
+use borrow.Author.Tests.{eq-eqb, ne-eqb}
+use Rattle.choice.specs.Pick.{pick-yes, pick-no}
+use Rattle.step.specs.Step.Laws.{output-is, held-is}
+use Rattle.step.specs.Step.{outputNeeded}
+use Rattle.feed.specs.Fed.{goesOn}
+use Rattle.feed.specs.Fed.Laws.{needed-is}
 use Rattle.feed.proofs.goes_on.Statement.{statement}
 use Rattle.feed.proofs.goes_on.Tie as tie
 
 returns : tie.Need-returns
-returns c = ?
+unfolding goesOn
+returns c = pick-yes _ _ _ _ (eq-eqb _ _ (c .if1 .taken)) refl
 
 returns-2 : tie.Need-returns-2
-returns-2 c = ?
+unfolding goesOn
+returns-2 c = pick-no _ _ _ _ (ne-eqb _ _ (c .before .if1 .left)) (pick-no _ _ _ _ (ne-eqb _ _ (c .if2 .taken)) refl)
 
 returns-3 : tie.Need-returns-3
-returns-3 c = ?
+unfolding goesOn
+returns-3 c = pick-no _ _ _ _ (ne-eqb _ _ (c .before .if1 .left)) (pick-yes _ _ _ false (eq-eqb _ _ (c .if2 .left)) (ap (λ n. leb n (c .before .before .args .room)) (sym needed-is)))
 
 pub goes-on-spec : {M : Type 1} → statement M
 goes-on-spec = tie.close (tie.spec returns returns-2 returns-3)

@@ -1,5 +1,6 @@
 -- How a block of events goes on, over any kind of seat and any way to take one event.
 --
+--   needed-is                what an event can need, as a number
 --   goes-true                by what the code tests
 --   counted-less             a refused event is not counted, and ends the loop
 --   none-underway            before the first event
@@ -22,7 +23,11 @@ use borrow.Author.Tests.{eqb-true, eqb-false, eq-eqb, ne-eqb, leb-true, leb-fals
 use Rattle.choice.specs.Pick.{pick, pick-true, pick-false, pick-known, never}
 use Rattle.choice.specs.Count.{positive, boolByte-le}
 use Rattle.step.specs.Step.{outputNeeded}
+use Rattle.step.specs.Step.Laws.{output-is, held-is}
 use Rattle.feed.specs.Fed.{Came, Fed, none, one, andThen, Single, fed, resumed, Underway, goesOn, Goes, restOf, recordAt, givenBack}
+
+pub needed-is : outputNeeded ≡ 4100
+needed-is = omega (arith, output-is, held-is)
 
 -- whether another event is looked at
 

@@ -275,6 +275,9 @@ pub refused-as :
     after (s .refusal) (s .given) n E N out ≡ refusedWith r n E N out
 refused-as s r n E N out e = ap (λ (t : Stepped). after (t .refusal) (t .given) n E N out) e
 
+pub zero-few : (s : Stepped) (r : ℕ) → s ≡ record { refusal = r; given = 0 } → 4 * s .given ≤ outputNeeded
+zero-few s r e = let z : s .given ≡ 0 = ap (λ (t : Stepped). t .given) e in omega arith
+
 -- an open
 
 module _ (P : Plan) (x : ℕ) (n : Numbers) (E : Elements) (N : Queue) (out : List ℕ) where

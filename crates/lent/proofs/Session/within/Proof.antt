@@ -39,7 +39,7 @@ returns c = let start = c .before .before .before .before .before .before .befor
     let args = start .args in
     within-refused (args .self) (args .bytes .now) (args .elements .now) (args .nodes .now) (args .out .now) _ _ _ _ _ _ _ (start .pre .0) (start .pre .1 .0)
     (search needs) (search needs) (λ i. c .before .before .before .before .before .before .before .before .before .before .before .before .before .before .before .before .before .before .before .before .before .slice-known .given i .fits) (λ i. c .before .before .before .before .before .before .before .before .before .before .before .before .before .before .before .before .before .before .before .before .slice-known2 .given i .fits)
-    (λ i. c .before .before .before .before .before .before .slice-known4 .given i .fits) (λ i. c .before .before .before .before .slice-known5 .given i .fits) (c .before .before .before .before .before .before .before .before .before .before .before .before .before .before .before .before .lay .ensures) (c .before .before .before .before .before .before .before .before .before .step .ensures) (c .if1 .taken)
+    (λ i. c .before .before .before .before .before .before .slice-known4 .given i .fits) (λ i. c .before .before .before .before .slice-known5 .given i .fits) (c .before .before .before .before .before .before .before .before .before .before .before .before .before .before .before .before .lay .ensures) (c .before .before .before .before .before .before .before .before .before .step .ensures .0) (c .if1 .taken)
 
 slice-aggregate-with : tie.Need-slice-aggregate-with
 slice-aggregate-with c = search needs
@@ -61,7 +61,7 @@ returns-2 c = let start = c .before .before .before .before .before .before .bef
     let args = start .args in
     within-taken (args .self) (args .bytes .now) (args .elements .now) (args .nodes .now) (args .out .now) _ _ _ _ _ _ _ (start .pre .0) (start .pre .1 .0)
     (search needs) (search needs) (λ i. c .before .before .before .before .before .before .before .before .before .before .before .before .before .before .before .before .before .before .before .before .before .before .before .slice-known .given i .fits) (λ i. c .before .before .before .before .before .before .before .before .before .before .before .before .before .before .before .before .before .before .before .before .before .before .slice-known2 .given i .fits)
-    (λ i. c .before .before .before .before .before .before .before .before .slice-known4 .given i .fits) (λ i. c .before .before .before .before .before .before .slice-known5 .given i .fits) (c .before .before .before .before .before .before .before .before .before .before .before .before .before .before .before .before .before .before .lay .ensures) (c .before .before .before .before .before .before .before .before .before .before .before .step .ensures) _ (c .before .before .if1 .left)
+    (λ i. c .before .before .before .before .before .before .before .before .slice-known4 .given i .fits) (λ i. c .before .before .before .before .before .before .slice-known5 .given i .fits) (c .before .before .before .before .before .before .before .before .before .before .before .before .before .before .before .before .before .before .lay .ensures) (c .before .before .before .before .before .before .before .before .before .before .before .step .ensures .0) _ (c .before .before .if1 .left)
     (c .with .ensures)
 
 pub within-spec : {M : Type 1} → statement M
