@@ -1,0 +1,157 @@
+// Offers each event of `events.rec` to a session by itself, also after a refusal, and writes a line for each: how it was answered, how many nodes
+// are held, and which were handed out.
+ghost use Rattle.io.specs.Counts.{Counts};
+use lent::Answer;
+use lent::Finish;
+use lent::Session;
+use lent::Start;
+use lent::Step;
+
+fn say(word: &[u8]) {
+    io::write_all(libc::STDOUT_FILENO, word);
+}
+
+fn say_number(n: u64) {
+    io::print_decimal(libc::STDOUT_FILENO, n);
+}
+
+fn read_query(query: &mut [u8]) -> usize
+    ensures { λ r. ⌜ Counts r (now (query .exit)) ⌝ }
+{
+    let fd = os::open_read(b"query.rec");
+    let n = io::read_full(fd, query);
+    libc::close(fd);
+    n
+}
+
+fn say_held(session: Session) {
+    say(b", held ");
+    say_number(session.held as u64);
+}
+
+fn say_nodes(records: &[u8], count: u32) {
+    if 0 < count {
+        say(b", listed");
+    }
+    let mut i: u32 = 0;
+    while i < count {
+        let at = i as usize;
+        if 4 * at + 4 <= records.len() {
+            say(b" ");
+            say_number(lines::node_at(records, at));
+        }
+        i += 1;
+    }
+}
+
+fn say_step(number: u64, step: Step, out: &[u8]) {
+    let answer = step.answer;
+    let session = step.session;
+    say_number(number);
+    match answer {
+        Answer::Refused(r) => {
+            say(b" refused ");
+            say_number(r as u64);
+            say_held(session);
+        }
+        Answer::Taken(n) => {
+            say(b" taken");
+            say_held(session);
+            say_nodes(out, n);
+        }
+    }
+    say(b"\n");
+}
+
+fn say_finish(finish: Finish) {
+    match finish {
+        Finish::Refused(r) => {
+            say(b"finish refused ");
+            say_number(r as u64);
+        }
+        Finish::Ended(opened, handed) => {
+            say(b"finish opened ");
+            say_number(opened as u64);
+            say(b" listed ");
+            say_number(handed as u64);
+        }
+    }
+    say(b"\n");
+}
+
+// A session, and whether there was another event for it.
+struct Offered {
+    session: Session,
+    going: bool,
+}
+
+// "Leftover bytes under 8 are a bad record": they are offered as they are.
+fn offer_next(fd: i32, number: u64, session: Session, elements: &mut [u8], nodes: &mut [u8], out: &mut [u8]) -> Offered {
+    let mut record = [0u8; 8];
+    let n = io::read_full(fd, &mut record);
+    if n == 0 {
+        return Offered {
+            session,
+            going: false,
+        };
+    }
+    let step = session.event(&record[..n], elements, nodes, out);
+    say_step(number, step, &*out);
+    let next = step.session;
+    Offered {
+        session: next,
+        going: true,
+    }
+}
+
+// Nothing says that a file ends. So the loop counts the events up to a number that no file has.
+fn offer_all(fd: i32, session: Session, elements: &mut [u8], nodes: &mut [u8], out: &mut [u8]) -> Session {
+    let mut offered = Offered {
+        session,
+        going: true,
+    };
+    let mut number: u64 = 1;
+    while offered.going && number < u64::MAX {
+        let last = offered.session;
+        offered = offer_next(fd, number, last, elements, nodes, out);
+        number += 1;
+    }
+    offered.session
+}
+
+fn say_query(answer: Start) -> bool {
+    match answer {
+        Start::Begun => true,
+        Start::ShortRoom => {
+            say(b"refused 15\n");
+            false
+        }
+        Start::BadLength => {
+            say(b"refused 9\n");
+            false
+        }
+        Start::BadStep(step) => {
+            say(b"refused 10 at ");
+            say_number(step as u64);
+            say(b"\n");
+            false
+        }
+    }
+}
+
+fn main() {
+    let mut query = [0u8; 264];
+    let mut elements = [0u8; 16384];
+    let mut nodes = [0u8; 32768];
+    let mut out = [0u8; 4100];
+    let n = read_query(&mut query);
+    let begun = lent::begin(&query[..n], &elements, &nodes);
+    let answer = begun.answer;
+    if say_query(answer) {
+        let fd = os::open_read(b"events.rec");
+        let session = begun.session;
+        let last = offer_all(fd, session, &mut elements, &mut nodes, &mut out);
+        libc::close(fd);
+        say_finish(last.finish());
+    }
+}
