@@ -35,7 +35,14 @@ fn goes_on(left: usize, refusal: u8, room: usize) -> bool
 
 // Takes the events of whole records from the start of `events`, one after the other, until they end, one is refused, or less of the buffer is left than an
 // event can need.
-pub fn feed(kept: &[u8], events: &[u8], numbers: &mut [u8], elements: &mut [u8], nodes: &mut [u8], out: &mut [u8]) -> Fed
+pub fn feed(
+    kept: &[u8],
+    events: &[u8],
+    numbers: &mut [u8],
+    elements: &mut [u8],
+    nodes: &mut [u8],
+    out: &mut [u8],
+) -> Fed
     requires { ⌜ (length (now kept) ≡ planRoom) × (length (now numbers) ≡ numbersRoom) ⌝ }
     requires { ⌜ (length (now elements) ≡ elementsRoom) × (length (now nodes) ≡ nodesRoom) ⌝ }
     ensures { λ r. ⌜ FeedGives (keptIn (now (kept .entry))) (seat (numbersIn (now (numbers .entry))) (elementsIn (now (elements .entry))) (queueIn (now (nodes .entry)))) (now (events .entry)) (now (out .entry)) r (seat (numbersIn (now (numbers .exit))) (elementsIn (now (elements .exit))) (queueIn (now (nodes .exit)))) (now (out .exit)) ⌝ }

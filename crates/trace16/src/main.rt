@@ -86,7 +86,14 @@ struct Offered {
 }
 
 // "Leftover bytes under 8 are a bad record": they are offered as they are.
-fn offer_next(fd: i32, number: u64, session: Session, elements: &mut [u8], nodes: &mut [u8], out: &mut [u8]) -> Offered {
+fn offer_next(
+    fd: i32,
+    number: u64,
+    session: Session,
+    elements: &mut [u8],
+    nodes: &mut [u8],
+    out: &mut [u8],
+) -> Offered {
     let mut record = [0u8; 8];
     let n = io::read_full(fd, &mut record);
     if n == 0 {
@@ -105,7 +112,13 @@ fn offer_next(fd: i32, number: u64, session: Session, elements: &mut [u8], nodes
 }
 
 // Nothing says that a file ends. So the loop counts the events up to a number that no file has.
-fn offer_all(fd: i32, session: Session, elements: &mut [u8], nodes: &mut [u8], out: &mut [u8]) -> Session {
+fn offer_all(
+    fd: i32,
+    session: Session,
+    elements: &mut [u8],
+    nodes: &mut [u8],
+    out: &mut [u8],
+) -> Session {
     let mut offered = Offered {
         session,
         going: true,

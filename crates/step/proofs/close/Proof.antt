@@ -20,10 +20,12 @@ same-length : tie.Need-same-length
 same-length c = search needs
 
 returns : tie.Need-returns
-returns c = let args = c .before .before .before .before .before .before .before .before .before .args in
-    (refused-as _ _ _ _ _ _ (c .refused .ensures)
-    ∙ close-refused (keptIn (args .kept .now)) (args .x) _ (elementsIn (args .elements .now)) (queueIn (args .nodes .now)) _ _
-    (c .before .before .refuse-close .ensures .0) (c .before .if1 .taken), zero-few _ _ (c .refused .ensures))
+returns c = let args = c .before .before .before .before .before .before .before .before .before .args in (
+  refused-as _ _ _ _ _ _ (c .refused .ensures)
+      ∙ close-refused (keptIn (args .kept .now)) (args .x) _ (elementsIn (args .elements .now)) (queueIn (args .nodes .now)) _ _
+      (c .before .before .refuse-close .ensures .0) (c .before .if1 .taken),
+  zero-few _ _ (c .refused .ensures),
+)
 
 get-requires : tie.Need-get-requires
 get-requires c κs = search needs
@@ -147,13 +149,15 @@ returns-2 c = let at-hand-out = c .before .before .before .before .before .befor
     let at-if1 = at-get .before .before in
     let at-refuse-close = at-if1 .before in
     let start = at-refuse-close .before .before .before .before .before .before .before in
-    let args = start .args in
-    (close-done (keptIn (args .kept .now)) (args .x) (numbersIn (args .numbers .now)) (elementsIn (args .elements .now)) (queueIn (args .nodes .now))
-    (args .out .now)
-    _ _ _ _ _ _ _ (at-refuse-close .refuse-close .ensures .0) (at-if1 .if1 .left) (at-get .get .ensures) (at-get2 .get2 .ensures)
-    (at-move-out .move-out .ensures .0)
-    (at-front-if .front-if .ensures .0) (at-hand-out .hand-out .ensures) (c .before .before .count-close .ensures), let fits = at-refuse-close .refuse-close .ensures .1 (at-if1 .if1 .left) in
-    omega (arith, output-is, at-front-if .front-if .ensures .1, at-move-out .move-out .ensures .1, at-get2 .get2 .ensures, fits .held))
+    let args = start .args in (
+      close-done (keptIn (args .kept .now)) (args .x) (numbersIn (args .numbers .now)) (elementsIn (args .elements .now)) (queueIn (args .nodes .now))
+          (args .out .now)
+          _ _ _ _ _ _ _ (at-refuse-close .refuse-close .ensures .0) (at-if1 .if1 .left) (at-get .get .ensures) (at-get2 .get2 .ensures)
+          (at-move-out .move-out .ensures .0)
+          (at-front-if .front-if .ensures .0) (at-hand-out .hand-out .ensures) (c .before .before .count-close .ensures),
+      let fits = at-refuse-close .refuse-close .ensures .1 (at-if1 .if1 .left) in
+          omega (arith, output-is, at-front-if .front-if .ensures .1, at-move-out .move-out .ensures .1, at-get2 .get2 .ensures, fits .held),
+    )
 
 pub close-spec : {M : Type 1} → statement M
 close-spec =

@@ -56,10 +56,12 @@ returns c = let at-before = c .before .before .before .before .before .before .b
     let at-event = at-before .before .before .before .before .before .before .before in
     let at-read-event = at-event .before .before in
     let start = at-read-event .before .before .before .before .before .before .before in
-    let args = start .args in
-    (step-read-as (keptIn (args .kept .now)) (args .bytes .now) _ (numbersIn (args .numbers .now)) (elementsIn (args .elements .now))
-    (queueIn (args .nodes .now)) (args .out .now) _
-    (sym (at-event .event .given .1) ∙ at-read-event .read-event .ensures) (c .before .before .before .before .before .before .before .before .«open» .ensures .0), c .before .before .before .before .before .before .before .before .«open» .ensures .1)
+    let args = start .args in (
+      step-read-as (keptIn (args .kept .now)) (args .bytes .now) _ (numbersIn (args .numbers .now)) (elementsIn (args .elements .now))
+          (queueIn (args .nodes .now)) (args .out .now) _
+          (sym (at-event .event .given .1) ∙ at-read-event .read-event .ensures) (c .before .before .before .before .before .before .before .before .«open» .ensures .0),
+      c .before .before .before .before .before .before .before .before .«open» .ensures .1,
+    )
 
 same-length-5 : tie.Need-same-length-5
 same-length-5 c = search needs
@@ -79,19 +81,23 @@ returns-2 c = let at-close = c .before .before .before .before .before .before i
     let at-event2 = at-close .before .before .before .before .before .before in
     let at-read-event = at-event2 .before .before in
     let start = at-read-event .before .before .before .before .before .before .before in
-    let args = start .args in
-    (step-read-as (keptIn (args .kept .now)) (args .bytes .now) _ (numbersIn (args .numbers .now)) (elementsIn (args .elements .now))
-    (queueIn (args .nodes .now)) (args .out .now) _
-    (sym (at-event2 .event2 .given .1) ∙ at-read-event .read-event .ensures) (at-close .close .ensures .0), at-close .close .ensures .1)
+    let args = start .args in (
+      step-read-as (keptIn (args .kept .now)) (args .bytes .now) _ (numbersIn (args .numbers .now)) (elementsIn (args .elements .now))
+          (queueIn (args .nodes .now)) (args .out .now) _
+          (sym (at-event2 .event2 .given .1) ∙ at-read-event .read-event .ensures) (at-close .close .ensures .0),
+      at-close .close .ensures .1,
+    )
 
 returns-3 : tie.Need-returns-3
 unfolding step
 returns-3 c = let at-read-event = c .before .before .before in
     let start = at-read-event .before .before .before .before .before .before .before in
-    let args = start .args in
-    (step-read-as (keptIn (args .kept .now)) (args .bytes .now) _ (numbersIn (args .numbers .now)) (elementsIn (args .elements .now))
-    (queueIn (args .nodes .now)) (args .out .now) _
-    (sym (c .before .enum-told .given .1) ∙ at-read-event .read-event .ensures) (refused-as _ _ _ _ _ _ (c .refused .ensures)), zero-few _ _ (c .refused .ensures))
+    let args = start .args in (
+      step-read-as (keptIn (args .kept .now)) (args .bytes .now) _ (numbersIn (args .numbers .now)) (elementsIn (args .elements .now))
+          (queueIn (args .nodes .now)) (args .out .now) _
+          (sym (c .before .enum-told .given .1) ∙ at-read-event .read-event .ensures) (refused-as _ _ _ _ _ _ (c .refused .ensures)),
+      zero-few _ _ (c .refused .ensures),
+    )
 
 pub step-spec : {M : Type 1} → statement M
 step-spec =

@@ -36,9 +36,10 @@ slice-aggregate-within-2 : tie.Need-slice-aggregate-within-2
 slice-aggregate-within-2 c = sym (length-take-le 32768 (c .before .before .before .before .before .before .before .before .before .args .nodes .now) (c .before .before .if3 .left))
 
 within-requires : tie.Need-within-requires
-within-requires c κs = let args = c .before .before .before .before .before .before .before .before .before .before .args in
-    (length-take-le 16384 (args .elements .now) (c .before .before .before .before .if2 .left) ∙ sym elements-room,
-    (length-take-le 32768 (args .nodes .now) (c .before .before .before .if3 .left) ∙ sym nodes-room, omega (arith, output-is, held-is)))
+within-requires c κs = let args = c .before .before .before .before .before .before .before .before .before .before .args in (
+  length-take-le 16384 (args .elements .now) (c .before .before .before .before .if2 .left) ∙ sym elements-room,
+  (length-take-le 32768 (args .nodes .now) (c .before .before .before .if3 .left) ∙ sym nodes-room, omega (arith, output-is, held-is)),
+)
 
 same-length : tie.Need-same-length
 same-length c = search needs
