@@ -4,6 +4,7 @@
 --   words-put       a number written byte by byte is one number written
 --   words-length    how many numbers there are
 --   bytes-words     the bytes of the numbers of bytes are these, where their length is a multiple of 4
+--   words-bytes     the numbers of the bytes of numbers under 2 ^ 32 are these
 --   bytes-same      so bytes of one length with the same numbers are the same
 --
 -- Assumes nothing.
@@ -112,6 +113,11 @@ bytes-words (suc n) (a ∷ b ∷ c ∷ d ∷ bs) l h =
         {p q r s : ℕ} {u v : List ℕ} → p ≡ a → q ≡ b → r ≡ c → s ≡ d → u ≡ v →
         _≡_ {A = List ℕ} (p ∷ q ∷ r ∷ s ∷ u) (a ∷ b ∷ c ∷ d ∷ v)
     four e₁ e₂ e₃ e₄ e = cc
+
+pub words-bytes : (ws : List ℕ) → ((i : ℕ) → getD ws i 0 < 4294967296) → words (bytesOf ws) ≡ ws
+unfolding words bytesOf
+words-bytes [] h = refl
+words-bytes (v ∷ ws) h = ap₂ _∷_ (word-bytes v (h 0)) (words-bytes ws (λ i. h (suc i)))
 
 pub bytes-same :
     (n : ℕ) (bs cs : List ℕ) → length bs ≡ 4 * n → length cs ≡ 4 * n → Bytes bs → Bytes cs → words bs ≡ words cs → bs ≡ cs
