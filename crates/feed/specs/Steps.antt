@@ -3,7 +3,8 @@
 --   Seat, seat n E N         what a step is taken at: the numbers and both rooms
 --   stepAt P s bytes out     one step (crate step), as what one event comes to
 --   step-came                what a step answered, as what one event comes to
---   FeedGives P s es out r s′ out′      THE PROMISE of `feed`: its result r, the numbers and rooms s′ and the buffer out′ on return are what single steps come to
+--   FeedGives P s es out r s′ out′      THE PROMISE of `feed`: its result r, the numbers and rooms s′ and the buffer out′ on return
+--                            are what single steps come to
 --   feed-one                 two results that it allows are equal, and so is all that was lent
 --
 -- Assumes nothing.
@@ -49,7 +50,10 @@ pub feed-one :
     (P : Plan) (s : Seat) (es out : List ℕ) (r r′ : struct.Fed) (t t′ : Seat) (o o′ : List ℕ) → FeedGives P s es out r t o →
     FeedGives P s es out r′ t′ o′ → (r ≡ r′) × ((t ≡ t′) × (o ≡ o′))
 feed-one P s es out r r′ t t′ o o′ g g′ =
-    let e = g ∙ sym g′ in (
-      λ i. record { taken = ap (λ (f : Fed Seat). f .taken) e i; listed = ap (λ (f : Fed Seat). f .listed) e i; refusal = ap (λ (f : Fed Seat). f .refusal) e i },
+    let e = g ∙ sym g′ in
+    let e-taken = ap (λ (f : Fed Seat). f .taken) e in
+    let e-listed = ap (λ (f : Fed Seat). f .listed) e in
+    let e-refusal = ap (λ (f : Fed Seat). f .refusal) e in (
+      λ i. record { taken = e-taken i; listed = e-listed i; refusal = e-refusal i },
       (ap (λ (f : Fed Seat). f .seat) e, ap (λ (f : Fed Seat). f .out) e),
     )

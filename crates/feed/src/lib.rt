@@ -45,7 +45,10 @@ pub fn feed(
 ) -> Fed
     requires { ⌜ (length (now kept) ≡ planRoom) × (length (now numbers) ≡ numbersRoom) ⌝ }
     requires { ⌜ (length (now elements) ≡ elementsRoom) × (length (now nodes) ≡ nodesRoom) ⌝ }
-    ensures { λ r. ⌜ FeedGives (keptIn (now (kept .entry))) (seat (numbersIn (now (numbers .entry))) (elementsIn (now (elements .entry))) (queueIn (now (nodes .entry)))) (now (events .entry)) (now (out .entry)) r (seat (numbersIn (now (numbers .exit))) (elementsIn (now (elements .exit))) (queueIn (now (nodes .exit)))) (now (out .exit)) ⌝ }
+    ensures { λ r. ⌜ FeedGives (keptIn (now (kept .entry)))
+        (seat (numbersIn (now (numbers .entry))) (elementsIn (now (elements .entry))) (queueIn (now (nodes .entry))))
+        (now (events .entry)) (now (out .entry)) r
+        (seat (numbersIn (now (numbers .exit))) (elementsIn (now (elements .exit))) (queueIn (now (nodes .exit)))) (now (out .exit)) ⌝ }
     ensures { λ r. ⌜ (8 * r .taken ≤ length (now (events .entry))) × (4 * r .listed ≤ length (now (out .exit))) ⌝ }
 {
     let mut taken: usize = 0;

@@ -143,7 +143,8 @@ impl Session {
     // An event on the room that is needed, with enough of a buffer.
     fn within(self, bytes: &[u8], elements: &mut [u8], nodes: &mut [u8], out: &mut [u8]) -> Step
         requires { ⌜ (length (now elements) ≡ elementsRoom) × ((length (now nodes) ≡ nodesRoom) × (outputNeeded ≤ length (now out))) ⌝ }
-        ensures { λ r. ⌜ record { answer = r .answer; session = r .session; elements = now (elements .exit); nodes = now (nodes .exit); out = now (out .exit) } ≡ within self (now (bytes .entry)) (now (elements .entry)) (now (nodes .entry)) (now (out .entry)) ⌝ }
+        ensures { λ r. ⌜ record { answer = r .answer; session = r .session; elements = now (elements .exit); nodes = now (nodes .exit); out = now (out .exit) }
+            ≡ within self (now (bytes .entry)) (now (elements .entry)) (now (nodes .entry)) (now (out .entry)) ⌝ }
     {
         let kept = self.kept;
         let mut numbers = [0u8; 20];
@@ -164,7 +165,8 @@ impl Session {
 
     // Takes one event. Longer buffers are fine: their bytes past the needed ones are never touched.
     pub fn event(self, bytes: &[u8], elements: &mut [u8], nodes: &mut [u8], out: &mut [u8]) -> Step
-        ensures { λ r. ⌜ EventGives self (now (bytes .entry)) (now (elements .entry)) (now (nodes .entry)) (now (out .entry)) r (now (elements .exit)) (now (nodes .exit)) (now (out .exit)) ⌝ }
+        ensures { λ r. ⌜ EventGives self (now (bytes .entry)) (now (elements .entry)) (now (nodes .entry)) (now (out .entry)) r
+            (now (elements .exit)) (now (nodes .exit)) (now (out .exit)) ⌝ }
     {
         if out.len() < limits::OUTPUT {
             return Step {

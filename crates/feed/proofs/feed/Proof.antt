@@ -47,7 +47,8 @@ mul-at : tie.Need-mul-at Inv-loop μ-loop
 mul-at c = let h = c .before .before .loop .inv .1 .1 .1 .within in search needs
 
 add-end : tie.Need-add-end Inv-loop μ-loop
-add-end c = let g = goes-true _ _ _ _ (c .before .goes-on .ensures) (c .if1 .taken) in omega (arith, g .more, c .before .before .before .before .before .before .before .before .before .good .1 .0 .0)
+add-end c = let g = goes-true _ _ _ _ (c .before .goes-on .ensures) (c .if1 .taken) in
+    omega (arith, g .more, c .before .before .before .before .before .before .before .before .before .good .1 .0 .0)
 
 mul-from : tie.Need-mul-from Inv-loop μ-loop
 mul-from c = let h = c .before .before .loop .inv .1 .1 .1 .fits in search needs
@@ -71,48 +72,74 @@ part-step-end-2 : tie.Need-part-step-end-2 Inv-loop μ-loop
 part-step-end-2 c = le-refl _
 
 step-requires : tie.Need-step-requires Inv-loop μ-loop
-step-requires c κs = let goes = goes-true _ _ _ _ (c .before .before .before .before .before .before .goes-on .ensures) (c .before .before .before .before .before .if1 .taken) in
-    let inv = c .before .before .before .before .before .before .before .loop .inv in
-    let p = c .before .before .before .before .before .before .before .before .before .before .before .before .before .before .pre in
-    ((p .0 .0, omega (arith, inv .0, p .0 .1)), (omega (arith, inv .1 .0, p .1 .0), (omega (arith, inv .1 .1 .0, p .1 .1), rest-wide (4 * c .before .before .before .before .before .before .before .loop .listed) _ (c .before .before .before .before .before .before .before .loop .out) (goes .wide))))
+step-requires c κs = let at-if1 = c .before .before .before .before .before in
+    let at-goes-on = at-if1 .before in
+    let at-loop = at-goes-on .before in
+    let inv = at-loop .loop .inv in
+    let p = at-loop .before .before .before .before .before .before .before .pre in
+    let goes = goes-true _ _ _ _ (at-goes-on .goes-on .ensures) (at-if1 .if1 .taken) in
+    let rest = rest-wide (4 * at-loop .loop .listed) _ (at-loop .loop .out) (goes .wide) in
+    ((p .0 .0, omega (arith, inv .0, p .0 .1)), (omega (arith, inv .1 .0, p .1 .0), (omega (arith, inv .1 .1 .0, p .1 .1), rest)))
 
 cast-listed : tie.Need-cast-listed Inv-loop μ-loop
 cast-listed c = search needs
 
 add-listed : tie.Need-add-listed Inv-loop μ-loop
 add-listed c = let stepped = c .before .before .before .before .before .before .before .before .before in
-    let at-loop = c .before .before .before .before .before .before .before .before .before .before .before .before .before .before .before .before .before in
+    let at-if1 = stepped .before .before .before .before .before .before in
+    let at-goes-on = at-if1 .before in
+    let at-loop = at-goes-on .before in
     let u = at-loop .loop .inv .1 .1 .1 in
-    let goes = goes-true _ _ _ _ (c .before .before .before .before .before .before .before .before .before .before .before .before .before .before .before .before .goes-on .ensures) (c .before .before .before .before .before .before .before .before .before .before .before .before .before .before .before .if1 .taken) in
-    let args = c .before .before .before .before .before .before .before .before .before .before .before .before .before .before .before .before .before .before .before .before .before .before .before .before .args in
-    let turn = turn-underway _ _ _ _ _ u goes _ (step-came (keptIn (args .kept .now)) _ _ _ _ _ _ (stepped .step .ensures .0)) (search needs) (stepped .step .ensures .1) in
-    omega (arith, turn .fits, turn .long, c .before .before .before .before .before .before .before .before .before .before .before .before .before .before .before .before .before .before .before .before .before .before .before .before .good .1 .1 .1 .1 .1 .0)
+    let goes = goes-true _ _ _ _ (at-goes-on .goes-on .ensures) (at-if1 .if1 .taken) in
+    let start = at-loop .before .before .before .before .before .before .before in
+    let came = step-came (keptIn (start .args .kept .now)) _ _ _ _ _ _ (stepped .step .ensures .0) in
+    let turn = turn-underway _ _ _ _ _ u goes _ came (search needs) (stepped .step .ensures .1) in
+    omega (arith, turn .fits, turn .long, start .good .1 .1 .1 .1 .1 .0)
 
 cast-taken : tie.Need-cast-taken Inv-loop μ-loop
 cast-taken c = search needs
 
 add-taken : tie.Need-add-taken Inv-loop μ-loop
 add-taken c = let stepped = c .before .before .before .before .before .before .before .before .before in
-    let at-loop = c .before .before .before .before .before .before .before .before .before .before .before .before .before .before .before .before .before in
+    let at-if1 = stepped .before .before .before .before .before .before in
+    let at-goes-on = at-if1 .before in
+    let at-loop = at-goes-on .before in
     let u = at-loop .loop .inv .1 .1 .1 in
-    let goes = goes-true _ _ _ _ (c .before .before .before .before .before .before .before .before .before .before .before .before .before .before .before .before .goes-on .ensures) (c .before .before .before .before .before .before .before .before .before .before .before .before .before .before .before .if1 .taken) in
-    let args = c .before .before .before .before .before .before .before .before .before .before .before .before .before .before .before .before .before .before .before .before .before .before .before .before .args in
-    let turn = turn-underway _ _ _ _ _ u goes _ (step-came (keptIn (args .kept .now)) _ _ _ _ _ _ (stepped .step .ensures .0)) (search needs) (stepped .step .ensures .1) in
-    omega (arith, turn .within, c .before .before .before .before .before .before .before .before .before .before .before .before .before .before .before .before .before .before .before .before .before .before .before .before .good .1 .0)
+    let goes = goes-true _ _ _ _ (at-goes-on .goes-on .ensures) (at-if1 .if1 .taken) in
+    let start = at-loop .before .before .before .before .before .before .before in
+    let came = step-came (keptIn (start .args .kept .now)) _ _ _ _ _ _ (stepped .step .ensures .0) in
+    let turn = turn-underway _ _ _ _ _ u goes _ came (search needs) (stepped .step .ensures .1) in
+    omega (arith, turn .within, start .good .1 .0)
 
 loop-less : tie.Need-loop-less Inv-loop μ-loop
-loop-less c = let goes = goes-true _ _ _ _ (c .before .before .before .before .before .before .before .before .before .before .before .before .before .before .before .before .goes-on .ensures) (c .before .before .before .before .before .before .before .before .before .before .before .before .before .before .before .if1 .taken) in
-    let events = c .before .before .before .before .before .before .before .before .before .before .before .before .before .before .before .before .before .before .before .before .before .before .before .before .args .events .now in
-    counted-less (length events / 8) (c .before .before .before .before .before .before .before .before .before .before .before .before .before .before .before .before .before .loop .taken) (c .before .before .before .before .before .before .before .before .before .before .before .before .before .before .before .before .before .loop .refusal) (c .before .before .before .before .before .before .before .before .before .step .result .refusal) (goes .unrefused) (omega (arith, goes .more))
+loop-less c = let stepped = c .before .before .before .before .before .before .before .before .before in
+    let at-if1 = stepped .before .before .before .before .before .before in
+    let at-goes-on = at-if1 .before in
+    let at-loop = at-goes-on .before in
+    let goes = goes-true _ _ _ _ (at-goes-on .goes-on .ensures) (at-if1 .if1 .taken) in
+    let events = at-loop .before .before .before .before .before .before .before .args .events .now in
+    counted-less (length events / 8) (at-loop .loop .taken) (at-loop .loop .refusal) (stepped .step .result .refusal) (goes .unrefused)
+    (omega (arith, goes .more))
 
 loop-again : tie.Need-loop-again Inv-loop μ-loop
-loop-again c = let stepped = c .before .before .before .before .before .before .before .before .before in
-    let at-loop = c .before .before .before .before .before .before .before .before .before .before .before .before .before .before .before .before .before in
-    let u = at-loop .loop .inv .1 .1 .1 in
-    let goes = goes-true _ _ _ _ (c .before .before .before .before .before .before .before .before .before .before .before .before .before .before .before .before .goes-on .ensures) (c .before .before .before .before .before .before .before .before .before .before .before .before .before .before .before .if1 .taken) in
-    let args = c .before .before .before .before .before .before .before .before .before .before .before .before .before .before .before .before .before .before .before .before .before .before .before .before .args in
-    let turn = turn-underway _ _ _ _ _ u goes _ (step-came (keptIn (args .kept .now)) _ _ _ _ _ _ (stepped .step .ensures .0)) (search needs) (stepped .step .ensures .1) in
-    (search needs, (search needs, (search needs, turn)))
+loop-again c = (
+  search needs,
+  (
+    search needs,
+    (
+      search needs,
+      let stepped = c .before .before .before .before .before .before .before .before .before in
+          let at-if1 = stepped .before .before .before .before .before .before in
+          let at-goes-on = at-if1 .before in
+          let at-loop = at-goes-on .before in
+          let u = at-loop .loop .inv .1 .1 .1 in
+          let goes = goes-true _ _ _ _ (at-goes-on .goes-on .ensures) (at-if1 .if1 .taken) in
+          let start = at-loop .before .before .before .before .before .before .before in
+          let came = step-came (keptIn (start .args .kept .now)) _ _ _ _ _ _ (stepped .step .ensures .0) in
+          turn-underway _ _ _ _ _ u goes _ came (search needs) (stepped .step .ensures .1),
+    ),
+  ),
+)
 
 same-length : tie.Need-same-length Inv-loop μ-loop
 same-length c = c .before .before .loop .inv .0

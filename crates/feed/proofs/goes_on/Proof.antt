@@ -23,7 +23,8 @@ returns-2 c = pick-no _ _ _ _ (ne-eqb _ _ (c .before .if1 .left)) (pick-no _ _ _
 
 returns-3 : tie.Need-returns-3
 unfolding goesOn
-returns-3 c = pick-no _ _ _ _ (ne-eqb _ _ (c .before .if1 .left)) (pick-yes _ _ _ false (eq-eqb _ _ (c .if2 .left)) (ap (λ n. leb n (c .before .before .args .room)) (sym needed-is)))
+returns-3 c = let room = ap (λ n. leb n (c .before .before .args .room)) (sym needed-is) in
+    pick-no _ _ _ _ (ne-eqb _ _ (c .before .if1 .left)) (pick-yes _ _ _ false (eq-eqb _ _ (c .if2 .left)) room)
 
 pub goes-on-spec : {M : Type 1} → statement M
 goes-on-spec = tie.close (tie.spec returns returns-2 returns-3)

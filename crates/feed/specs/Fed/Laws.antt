@@ -165,7 +165,8 @@ module _ {S : Type 0} where
       -- what was left begins with this event
       rest-is :
           (m : ℕ) → n - r .taken ≡ suc m →
-          fed take-one (n - r .taken) (r .seat) (drop (8 * r .taken) es) (drop (4 * r .listed) (r .out)) ≡ pick (eqb (c .refusal) 0) (andThen (one c) (next m)) (one c)
+          fed take-one (n - r .taken) (r .seat) (drop (8 * r .taken) es) (drop (4 * r .listed) (r .out))
+          ≡ pick (eqb (c .refusal) 0) (andThen (one c) (next m)) (one c)
       unfolding fed
       rest-is m e =
           let w : outputNeeded ≤ length (drop (4 * r .listed) (r .out)) = omega (arith, length-drop (4 * r .listed) (r .out)) in
@@ -184,7 +185,8 @@ module _ {S : Type 0} where
           let a : 8 * (r .taken + boolByte (eqb (c .refusal) 0)) ≡ 8 * r .taken + 8 = omega arith in
           pick-true _ _ _ e
           ∙ ap (andThen (andThen r (one c)))
-          (ap (λ j. fed take-one j (c .seat) (drop (8 * (r .taken + boolByte (eqb (c .refusal) 0))) es) (drop (4 * (r .listed + c .given)) (take (4 * r .listed) (r .out) ++ c .out))) k
+          (ap (λ j. fed take-one j (c .seat) (drop (8 * (r .taken + boolByte (eqb (c .refusal) 0))) es)
+          (drop (4 * (r .listed + c .given)) (take (4 * r .listed) (r .out) ++ c .out))) k
           ∙ ap₂ (λ x y. fed take-one m (c .seat) x y) (ap (λ j. drop j es) a ∙ sym (drop-drop 8 (8 * r .taken) es)) (drop-both r (one c) fits))
           ∙ sym (andThen-assoc r (one c) fits (next m))
           ∙ ap (andThen r) (sym (pick-true true (andThen (one c) (next m)) (one c) refl))

@@ -57,7 +57,9 @@ module _ (q E N : List ℕ) (a : start.Start) (s : Session) where
   unfolding begun
   beside ea es = ap (λ (t : Session). record { answer = said a; session = t }) es ∙ ap (λ x. record { answer = x; session = sessionFor x q }) ea
 
-  pub begin-short : (plan : Plan) → a ≡ started.ShortRoom → shortRoom E N ≡ true → plan ≡ planOf [] → s ≡ fresh plan → BeginGives q E N (record { answer = a; session = s })
+  pub begin-short :
+      (plan : Plan) → a ≡ started.ShortRoom → shortRoom E N ≡ true → plan ≡ planOf [] → s ≡ fresh plan →
+      BeginGives q E N (record { answer = a; session = s })
   unfolding said answerOf sessionFor
   begin-short plan ea h ep es =
       beside (ap said ea ∙ sym (pick-true _ _ _ h)) (es ∙ ap fresh ep ∙ ap (λ x. sessionFor (said x) q) (sym ea))

@@ -35,7 +35,8 @@ use Rattle.lent.specs.declared.Answer.the-variants.{Refused, Taken}
 use Rattle.lent.specs.declared.Step.{Step}
 use Rattle.lent.specs.declared.Finish as finished
 use Rattle.lent.specs.Begin.{shortRoom}
-use Rattle.lent.specs.Event.{Done, refused, numbersOf, withNumbers, settled, within, beside, event, ToldDone, toldAs, toldOf, EventGives, finish, FinishGives}
+use Rattle.lent.specs.Event.{Done, refused, numbersOf, withNumbers, settled, within, beside, event}
+use Rattle.lent.specs.Event.{ToldDone, toldAs, toldOf, EventGives, finish, FinishGives}
 use Rattle.lent.specs.Told.{told, told-one, ended-one}
 
 pub with-parts :
@@ -49,8 +50,11 @@ with-parts s n depth held opened handed ended e₁ e₂ e₃ e₄ e₅ =
 module _ (s : Session) (bytes E N out E′ N′ out′ : List ℕ) (refusal given : ℕ) (n n′ : Numbers) (longE : length E ≡ elementsRoom)
     (longN : length N ≡ nodesRoom) (longE′ : length E′ ≡ elementsRoom) (longN′ : length N′ ≡ nodesRoom) (bE : Bytes E) (bN : Bytes N) (bE′ : Bytes E′)
     (bN′ : Bytes N′) (laid-as : n ≡ numbersOf s)
-    (stepped : after refusal given n′ (elementsIn E′) (queueIn N′) out′ ≡ step (keptIn (s .kept)) (shown (eventOf bytes)) n (elementsIn E) (queueIn N) out) where
-  whole : after refusal given n′ (elementsIn E′) (queueIn N′) out′ ≡ step (keptIn (s .kept)) (shown (eventOf bytes)) (numbersOf s) (elementsIn E) (queueIn N) out
+    (stepped : after refusal given n′ (elementsIn E′) (queueIn N′) out′
+    ≡ step (keptIn (s .kept)) (shown (eventOf bytes)) n (elementsIn E) (queueIn N) out) where
+  whole :
+      after refusal given n′ (elementsIn E′) (queueIn N′) out′
+      ≡ step (keptIn (s .kept)) (shown (eventOf bytes)) (numbersOf s) (elementsIn E) (queueIn N) out
   whole = stepped ∙ ap (λ m. step (keptIn (s .kept)) (shown (eventOf bytes)) m (elementsIn E) (queueIn N) out) laid-as
 
   pub within-refused :

@@ -71,8 +71,8 @@ returns-2 c = let at-get2 = c .before .before .before .before .before in
     let start = at-refuse-open .before .before .before .before .before .before .before in
     let args = start .args in (
       refused-as _ _ _ _ _ _ (c .refused2 .ensures)
-          ∙ open-full (keptIn (args .kept .now)) (args .x) (numbersIn (args .numbers .now)) (elementsIn (args .elements .now)) (queueIn (args .nodes .now)) _ _ _ _
-          (at-refuse-open .refuse-open .ensures .0) (at-if1 .if1 .left) (at-get .get .ensures) (at-get2 .get2 .ensures) _
+          ∙ open-full (keptIn (args .kept .now)) (args .x) (numbersIn (args .numbers .now)) (elementsIn (args .elements .now)) (queueIn (args .nodes .now))
+          _ _ _ _ (at-refuse-open .refuse-open .ensures .0) (at-if1 .if1 .left) (at-get .get .ensures) (at-get2 .get2 .ensures) _
           (c .before .before .full .ensures) (c .before .if2 .taken),
       zero-few _ _ (c .refused2 .ensures),
     )
@@ -191,8 +191,8 @@ returns-3 c = let at-join = c .before .before .before .before .before .before .b
       open-done (keptIn (args .kept .now)) (args .x) (numbersIn (args .numbers .now)) (elementsIn (args .elements .now)) (queueIn (args .nodes .now))
           (args .out .now)
           _ _ _ (at-refuse-open .refuse-open .ensures .0) (at-if1 .if1 .left) (at-get .get .ensures) (at-get2 .get2 .ensures) _ _ _ _ _ _
-          (at-full .full .ensures) (at-if2 .if2 .left) (at-opening .opening .ensures .0) (ap (λ k. k + 1) (at-get3 .get3 .ensures)) refl (at-join .join .ensures .0)
-          (c .before .before .count-open .ensures),
+          (at-full .full .ensures) (at-if2 .if2 .left) (at-opening .opening .ensures .0) (ap (λ k. k + 1) (at-get3 .get3 .ensures)) refl
+          (at-join .join .ensures .0) (c .before .before .count-open .ensures),
       let fits = at-refuse-open .refuse-open .ensures .1 (at-if1 .if1 .left) in
           omega (arith, output-is, at-opening .opening .ensures .1, at-get2 .get2 .ensures, fits .held, boolByte-le (at-opening .opening .result .all)),
     )

@@ -59,7 +59,8 @@ returns c = let at-before = c .before .before .before .before .before .before .b
     let args = start .args in (
       step-read-as (keptIn (args .kept .now)) (args .bytes .now) _ (numbersIn (args .numbers .now)) (elementsIn (args .elements .now))
           (queueIn (args .nodes .now)) (args .out .now) _
-          (sym (at-event .event .given .1) ∙ at-read-event .read-event .ensures) (c .before .before .before .before .before .before .before .before .«open» .ensures .0),
+          (sym (at-event .event .given .1) ∙ at-read-event .read-event .ensures)
+          (c .before .before .before .before .before .before .before .before .«open» .ensures .0),
       c .before .before .before .before .before .before .before .before .«open» .ensures .1,
     )
 

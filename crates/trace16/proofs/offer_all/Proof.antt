@@ -9,7 +9,8 @@ use Rattle.trace16.proofs.offer_all.Statement.{statement}
 use Rattle.trace16.proofs.offer_all.Tie as tie
 
 abbrev Inv-loop : tie.InvT-loop
-Inv-loop fd elements₀ nodes₀ out₀ offered₀ number₀ elements nodes out offered number = (number ≤ 18446744073709551615) × ((length elements ≡ length elements₀) × ((length nodes ≡ length nodes₀) × (length out ≡ length out₀)))
+Inv-loop fd elements₀ nodes₀ out₀ offered₀ number₀ elements nodes out offered number =
+    (number ≤ 18446744073709551615) × ((length elements ≡ length elements₀) × ((length nodes ≡ length nodes₀) × (length out ≡ length out₀)))
 
 abbrev μ-loop : tie.MeasureT-loop
 μ-loop fd elements₀ nodes₀ out₀ offered₀ number₀ elements nodes out offered number = 18446744073709551615 - number

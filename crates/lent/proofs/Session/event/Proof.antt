@@ -27,13 +27,15 @@ slice-relend-prefix-within : tie.Need-slice-relend-prefix-within
 slice-relend-prefix-within c = search needs
 
 slice-aggregate-within : tie.Need-slice-aggregate-within
-slice-aggregate-within c = sym (length-take-le 16384 (c .before .before .before .before .before .before .before .before .args .elements .now) (c .before .before .if2 .left))
+slice-aggregate-within c = let at-if2 = c .before .before in
+    sym (length-take-le 16384 (at-if2 .before .before .before .before .before .before .args .elements .now) (at-if2 .if2 .left))
 
 slice-relend-prefix-within-2 : tie.Need-slice-relend-prefix-within-2
 slice-relend-prefix-within-2 c = search needs
 
 slice-aggregate-within-2 : tie.Need-slice-aggregate-within-2
-slice-aggregate-within-2 c = sym (length-take-le 32768 (c .before .before .before .before .before .before .before .before .before .args .nodes .now) (c .before .before .if3 .left))
+slice-aggregate-within-2 c = let at-if3 = c .before .before in
+    sym (length-take-le 32768 (at-if3 .before .before .before .before .before .before .before .args .nodes .now) (at-if3 .if3 .left))
 
 within-requires : tie.Need-within-requires
 within-requires c κs = let args = c .before .before .before .before .before .before .before .before .before .before .args in (
@@ -51,9 +53,10 @@ same-length-3 : tie.Need-same-length-3
 same-length-3 c = search needs
 
 returns-4 : tie.Need-returns-4
-returns-4 c = let args = c .before .before .before .before .before .before .before .before .before .before .before .before .before .before .before .before .before .args in
+returns-4 c = let at-within = c .before .before .before .before .before .before in
+    let args = at-within .before .before .before .before .before .before .before .before .before .before .before .args in
     event-parts (args .self) (args .bytes .now) (args .elements .now) (args .nodes .now) (args .out .now) _ _ _ _ _ 16384 32768 elements-room nodes-room
-    (omega (arith, output-is, held-is)) (room-enough _ _ (omega (arith, elements-room)) (omega (arith, nodes-room))) (c .before .before .before .before .before .before .within .ensures)
+    (omega (arith, output-is, held-is)) (room-enough _ _ (omega (arith, elements-room)) (omega (arith, nodes-room))) (at-within .within .ensures)
 
 pub event-spec : {M : Type 1} → statement M
 event-spec =

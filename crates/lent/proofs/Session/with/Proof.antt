@@ -21,9 +21,13 @@ get-requires-5 : tie.Need-get-requires-5
 get-requires-5 c κs = search needs
 
 returns : tie.Need-returns
-returns c = let args = c .before .before .before .before .before .before .before .args in
-    with-parts (args .self) (numbersIn (args .numbers .now)) _ _ _ _ _ (c .before .before .before .before .get .ensures) (c .before .before .before .get2 .ensures) (c .before .before .get3 .ensures)
-    (c .before .get4 .ensures) (c .get5 .ensures)
+returns c = let at-get4 = c .before in
+    let at-get3 = at-get4 .before in
+    let at-get2 = at-get3 .before in
+    let at-get = at-get2 .before in
+    let args = at-get .before .before .before .args in
+    with-parts (args .self) (numbersIn (args .numbers .now)) _ _ _ _ _ (at-get .get .ensures) (at-get2 .get2 .ensures) (at-get3 .get3 .ensures)
+    (at-get4 .get4 .ensures) (c .get5 .ensures)
 
 pub with-spec : {M : Type 1} → statement M
 with-spec =

@@ -35,11 +35,18 @@ same-length-3 : tie.Need-same-length-3
 same-length-3 c = search needs
 
 returns : tie.Need-returns
-returns c = let start = c .before .before .before .before .before .before .before .before .before .before .before .before .before .before .before .before .before .before .before .before .before .before .before in
+returns c = let at-slice5 = c .before .before .before .before in
+    let at-slice4 = at-slice5 .before .before in
+    let at-step = at-slice4 .before .before .before in
+    let at-lay = at-step .before .before .before .before .before .before .before in
+    let at-slice2 = at-lay .before .before .before .before in
+    let at-slice = at-slice2 .before in
+    let start = at-slice .before .before in
     let args = start .args in
     within-refused (args .self) (args .bytes .now) (args .elements .now) (args .nodes .now) (args .out .now) _ _ _ _ _ _ _ (start .pre .0) (start .pre .1 .0)
-    (search needs) (search needs) (λ i. c .before .before .before .before .before .before .before .before .before .before .before .before .before .before .before .before .before .before .before .before .before .slice-known .given i .fits) (λ i. c .before .before .before .before .before .before .before .before .before .before .before .before .before .before .before .before .before .before .before .before .slice-known2 .given i .fits)
-    (λ i. c .before .before .before .before .before .before .slice-known4 .given i .fits) (λ i. c .before .before .before .before .slice-known5 .given i .fits) (c .before .before .before .before .before .before .before .before .before .before .before .before .before .before .before .before .lay .ensures) (c .before .before .before .before .before .before .before .before .before .step .ensures .0) (c .if1 .taken)
+    (search needs) (search needs) (λ i. at-slice .slice-known .given i .fits) (λ i. at-slice2 .slice-known2 .given i .fits)
+    (λ i. at-slice4 .slice-known4 .given i .fits) (λ i. at-slice5 .slice-known5 .given i .fits) (at-lay .lay .ensures) (at-step .step .ensures .0)
+    (c .if1 .taken)
 
 slice-aggregate-with : tie.Need-slice-aggregate-with
 slice-aggregate-with c = search needs
@@ -57,12 +64,18 @@ same-length-6 : tie.Need-same-length-6
 same-length-6 c = search needs
 
 returns-2 : tie.Need-returns-2
-returns-2 c = let start = c .before .before .before .before .before .before .before .before .before .before .before .before .before .before .before .before .before .before .before .before .before .before .before .before .before in
+returns-2 c = let at-slice5 = c .before .before .before .before .before .before in
+    let at-slice4 = at-slice5 .before .before in
+    let at-step = at-slice4 .before .before .before in
+    let at-lay = at-step .before .before .before .before .before .before .before in
+    let at-slice2 = at-lay .before .before .before .before in
+    let at-slice = at-slice2 .before in
+    let start = at-slice .before .before in
     let args = start .args in
     within-taken (args .self) (args .bytes .now) (args .elements .now) (args .nodes .now) (args .out .now) _ _ _ _ _ _ _ (start .pre .0) (start .pre .1 .0)
-    (search needs) (search needs) (λ i. c .before .before .before .before .before .before .before .before .before .before .before .before .before .before .before .before .before .before .before .before .before .before .before .slice-known .given i .fits) (λ i. c .before .before .before .before .before .before .before .before .before .before .before .before .before .before .before .before .before .before .before .before .before .before .slice-known2 .given i .fits)
-    (λ i. c .before .before .before .before .before .before .before .before .slice-known4 .given i .fits) (λ i. c .before .before .before .before .before .before .slice-known5 .given i .fits) (c .before .before .before .before .before .before .before .before .before .before .before .before .before .before .before .before .before .before .lay .ensures) (c .before .before .before .before .before .before .before .before .before .before .before .step .ensures .0) _ (c .before .before .if1 .left)
-    (c .with .ensures)
+    (search needs) (search needs) (λ i. at-slice .slice-known .given i .fits) (λ i. at-slice2 .slice-known2 .given i .fits)
+    (λ i. at-slice4 .slice-known4 .given i .fits) (λ i. at-slice5 .slice-known5 .given i .fits) (at-lay .lay .ensures) (at-step .step .ensures .0)
+    _ (c .before .before .if1 .left) (c .with .ensures)
 
 pub within-spec : {M : Type 1} → statement M
 within-spec =
