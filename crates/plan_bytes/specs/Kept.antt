@@ -9,6 +9,7 @@
 -- Assumes nothing. NOT here: that the plan of a query is read as it was packed (Kept.Laws).
 pub mod Laws
 pub mod Packed
+pub mod Planned
 use Prim.Native.Nat.{ℕ, _+_, _*_}
 use mathlib.Core.List.{List, [], _∷_}
 use lib.ListN.{getD, replicate}

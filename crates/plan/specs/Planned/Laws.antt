@@ -4,6 +4,7 @@
 --   planOf-short      so where the bytes mean at most 32 steps, the plan made of them is that of these steps
 --   planOf-admitted   and so for every query that the check admits; columns-admitted: column by column
 --   right-admitted    and that plan is right, as its order is
+--   plan-hung         a plan keeps for each step what hangs on it
 --   planOf-long       a plan of any bytes has 32 slots, and at most so many steps
 --   plan-one          two results that the promise of `plan_of` allows are equal
 --
@@ -48,7 +49,7 @@ admitted-short q given =
 pub planOf-admitted : (q : List ℕ) → answerTo q ≡ admitted → planOf q ≡ columns (plan (decode q))
 planOf-admitted q given = planOf-short q (admitted-short q given)
 
-plan-hung : (Q : Query) → length (plan Q .hung) ≡ length Q
+pub plan-hung : (Q : Query) → length (plan Q .hung) ≡ length Q
 unfolding plan
 plan-hung Q = length-map (order Q) _ ∙ order-length Q
 
