@@ -1,22 +1,29 @@
 -- A block of steps.
 --
---   Seat, seat n E N         what a step is taken at: the numbers and both rooms
+--   Seat, seat n E N         what a step is taken at: the numbers, and the bytes of both rooms
+--   came                     what one event comes to, part by part
+--   cameTo s out a           what a step that came to a leaves, as what one event comes to: a refused one leaves all as it was
 --   stepAt P s bytes out     one step (crate step), as what one event comes to
---   step-came                what a step answered, as what one event comes to
+--   Whole s                  the rooms are as long as they must be, and whether the document element has been closed is said by 0 or 1
 --   FeedGives P s es out r s′ out′      THE PROMISE of `feed`: its result r, the numbers and rooms s′ and the buffer out′ on return
 --                            are what single steps come to
---   feed-one                 two results that it allows are equal, and so is all that was lent
 --
--- Assumes nothing.
-use Prim.Native.Nat.{ℕ, _/_}
-use mathlib.Core.Path.{_≡_, sym, ap, _∙_}
+-- Assumes nothing. NOT here: that a step leaves what code finds in the rooms (Steps.Laws).
+pub mod Laws
+use Prim.Native.Nat.{ℕ, _/_, _≤_}
+use mathlib.Core.Path.{_≡_}
 use mathlib.Core.List.{List}
+use lib.Dec.{eqb}
 use lib.ListN.{length}
+use Rattle.choice.specs.Pick.{pick}
 use Rattle.meaning.specs.Record.{eventOf}
 use Rattle.records.specs.Read.{shown}
 use Rattle.plan.specs.Plan.{Plan}
-use Rattle.element.specs.Element.{Elements}
-use Rattle.node.specs.Node.{Queue}
+use Rattle.words.specs.Records.{laid}
+use Rattle.element.specs.Element as element
+use Rattle.element.specs.Element.{elementsRoom, elementsIn}
+use Rattle.node.specs.Node as node
+use Rattle.node.specs.Node.{nodesRoom, queueIn}
 use Rattle.numbers.specs.Numbers.{Numbers}
 use Rattle.step.specs.Step.{After, step}
 use Rattle.feed.specs.declared.Fed as struct
@@ -24,36 +31,31 @@ use Rattle.feed.specs.Fed.{Came, Fed, fed}
 
 pub record Seat : Type 0 where
   pub numbers : Numbers
-  pub elements : Elements
-  pub nodes : Queue
+  pub elements : List ℕ
+  pub nodes : List ℕ
 
-abbrev pub seat : Numbers → Elements → Queue → Seat
+abbrev pub seat : Numbers → List ℕ → List ℕ → Seat
 seat n E N = record { numbers = n; elements = E; nodes = N }
 
-abbrev pub cameTo : After → Came Seat
-cameTo a = record { refusal = a .refusal; given = a .given; seat = seat (a .numbers) (a .elements) (a .nodes); out = a .out }
+abbrev pub came : ℕ → ℕ → Seat → List ℕ → Came Seat
+came refusal given s out = record { refusal = refusal; given = given; seat = s; out = out }
+
+-- "A refused call leaves the lent room as it was, too"
+unfoldable pub cameTo : Seat → List ℕ → After → Came Seat
+cameTo s out a =
+    pick (eqb (a .refusal) 0)
+    (came 0 (a .given) (seat (a .numbers) (laid element.shape (a .elements)) (laid node.shape (a .nodes))) (a .out))
+    (came (a .refusal) 0 s out)
 
 unfoldable pub stepAt : Plan → Seat → List ℕ → List ℕ → Came Seat
-stepAt P s bytes out = cameTo (step P (shown (eventOf bytes)) (s .numbers) (s .elements) (s .nodes) out)
+stepAt P s bytes out =
+    cameTo s out (step P (shown (eventOf bytes)) (s .numbers) (elementsIn (s .elements)) (queueIn (s .nodes)) out)
 
-pub step-came :
-    (P : Plan) (n : Numbers) (E : Elements) (N : Queue) (bytes out : List ℕ) (a : After) → a ≡ step P (shown (eventOf bytes)) n E N out →
-    cameTo a ≡ stepAt P (seat n E N) bytes out
-unfolding stepAt
-step-came P n E N bytes out a e = ap cameTo e
+pub record Whole (s : Seat) : Type 0 where
+  pub elements : length (s .elements) ≡ elementsRoom
+  pub nodes : length (s .nodes) ≡ nodesRoom
+  pub said : s .numbers .ended ≤ 1
 
 abbrev pub FeedGives : Plan → Seat → List ℕ → List ℕ → struct.Fed → Seat → List ℕ → Type 0
 FeedGives P s es out r s′ out′ =
     record { seat = s′; taken = r .taken; listed = r .listed; refusal = r .refusal; out = out′ } ≡ fed (stepAt P) (length es / 8) s es out
-
-pub feed-one :
-    (P : Plan) (s : Seat) (es out : List ℕ) (r r′ : struct.Fed) (t t′ : Seat) (o o′ : List ℕ) → FeedGives P s es out r t o →
-    FeedGives P s es out r′ t′ o′ → (r ≡ r′) × ((t ≡ t′) × (o ≡ o′))
-feed-one P s es out r r′ t t′ o o′ g g′ =
-    let e = g ∙ sym g′ in
-    let e-taken = ap (λ (f : Fed Seat). f .taken) e in
-    let e-listed = ap (λ (f : Fed Seat). f .listed) e in
-    let e-refusal = ap (λ (f : Fed Seat). f .refusal) e in (
-      λ i. record { taken = e-taken i; listed = e-listed i; refusal = e-refusal i },
-      (ap (λ (f : Fed Seat). f .seat) e, ap (λ (f : Fed Seat). f .out) e),
-    )

@@ -3,8 +3,8 @@ ghost use mathlib.Core.Path.{_≡_};
 ghost use mathlib.Core.Bool.{true};
 ghost use Prim.Native.Nat.{_*_, _/_, _≤_};
 ghost use lib.ListN.{length};
-ghost use Rattle.element.specs.Element.{elementsRoom, elementsIn};
-ghost use Rattle.node.specs.Node.{nodesRoom, queueIn};
+ghost use Rattle.element.specs.Element.{elementsRoom};
+ghost use Rattle.node.specs.Node.{nodesRoom};
 ghost use Rattle.numbers.specs.Numbers.{numbersRoom, numbersIn};
 ghost use Rattle.plan_bytes.specs.Kept.{planRoom, keptIn};
 ghost use Rattle.feed.specs.Fed.{goesOn};
@@ -46,9 +46,8 @@ pub fn feed(
     requires { ⌜ (length (now kept) ≡ planRoom) × (length (now numbers) ≡ numbersRoom) ⌝ }
     requires { ⌜ (length (now elements) ≡ elementsRoom) × (length (now nodes) ≡ nodesRoom) ⌝ }
     ensures { λ r. ⌜ FeedGives (keptIn (now (kept .entry)))
-        (seat (numbersIn (now (numbers .entry))) (elementsIn (now (elements .entry))) (queueIn (now (nodes .entry))))
-        (now (events .entry)) (now (out .entry)) r
-        (seat (numbersIn (now (numbers .exit))) (elementsIn (now (elements .exit))) (queueIn (now (nodes .exit)))) (now (out .exit)) ⌝ }
+        (seat (numbersIn (now (numbers .entry))) (now (elements .entry)) (now (nodes .entry))) (now (events .entry)) (now (out .entry)) r
+        (seat (numbersIn (now (numbers .exit))) (now (elements .exit)) (now (nodes .exit))) (now (out .exit)) ⌝ }
     ensures { λ r. ⌜ (8 * r .taken ≤ length (now (events .entry))) × (4 * r .listed ≤ length (now (out .exit))) ⌝ }
 {
     let mut taken: usize = 0;

@@ -19,6 +19,7 @@
 -- Numbers that no calls lead to may be past every limit: an open or a close is then refused too, so that no record is left.
 -- Assumes nothing. NOT here: that the engine's state is what the rooms then hold (Step.Engine).
 pub mod Laws
+pub mod Left
 use Prim.Native.Nat.{ℕ, _+_, _-_, _*_, _%_, _^_, _≤_, _<_}
 use mathlib.Core.Bool.{Bool, true, false, not}
 use mathlib.Core.List.{List, [], _++_}

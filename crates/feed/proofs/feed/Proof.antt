@@ -3,55 +3,61 @@ use borrow.Author.Needs.{needs}
 use native.Mathlib.Omega.{arith}
 use native.Mathlib.Nat.{le-refl}
 use Prim.Native.Nat.{_+_, _-_, _*_, _/_, _≤_}
-use mathlib.Core.Path.{_≡_, refl}
+use mathlib.Core.Path.{_≡_, refl, _∙_}
 use mir.Val.{boolByte}
 use lib.Dec.{eqb}
 use lib.ListN.{length}
-use Rattle.element.specs.Element.{elementsIn}
-use Rattle.node.specs.Node.{queueIn}
+use Rattle.words.specs.Words.{Bytes}
 use Rattle.numbers.specs.Numbers.{numbersIn}
 use Rattle.plan_bytes.specs.Kept.{keptIn}
+use Rattle.choice.specs.Count.{boolByte-le}
 use Rattle.feed.specs.Fed.{Underway}
 use Rattle.feed.specs.Fed.Laws.{goes-true, counted-less, none-underway, turn-underway, underway-done, rest-wide}
-use Rattle.feed.specs.Steps.{seat, stepAt, step-came}
+use Rattle.feed.specs.Steps.{seat, stepAt}
+use Rattle.feed.specs.Steps.Laws.{step-came}
 use Rattle.feed.proofs.feed.Statement.{statement}
 use Rattle.feed.proofs.feed.Tie as tie
 
 abbrev Inv-loop : tie.InvT-loop
 Inv-loop kept events numbers₀ elements₀ nodes₀ out₀ taken₀ listed₀ refusal₀ numbers elements nodes out taken listed refusal =
-    (length numbers ≡ length numbers₀) × ((length elements ≡ length elements₀) × ((length nodes ≡ length nodes₀) ×
-    Underway (stepAt (keptIn kept)) (seat (numbersIn numbers₀) (elementsIn elements₀) (queueIn nodes₀)) events out₀
-    (record { seat = seat (numbersIn numbers) (elementsIn elements) (queueIn nodes); taken = taken; listed = listed; refusal = refusal; out = out })))
+    ((length numbers ≡ length numbers₀) × ((length elements ≡ length elements₀) × (length nodes ≡ length nodes₀))) × ((Bytes elements × Bytes nodes) ×
+    Underway (stepAt (keptIn kept)) (seat (numbersIn numbers₀) elements₀ nodes₀) events out₀
+    (record { seat = seat (numbersIn numbers) elements nodes; taken = taken; listed = listed; refusal = refusal; out = out }))
 
 abbrev μ-loop : tie.MeasureT-loop
 μ-loop kept events numbers₀ elements₀ nodes₀ out₀ taken₀ listed₀ refusal₀ numbers elements nodes out taken listed refusal =
     length events / 8 - taken + boolByte (eqb refusal 0)
 
 loop-holds : tie.Need-loop-holds Inv-loop μ-loop
-loop-holds c = let args = c .before .before .before .before .before .before .args in
-    (refl, (refl, (refl, none-underway (stepAt (keptIn (args .kept .now))) _ (args .events .now) (args .out .now))))
+loop-holds c = let args = c .before .before .before .before .before .before .args in (
+  (refl, (refl, refl)),
+  (
+    (λ i. c .before .before .slice-known2 .given i .fits, λ i. c .before .slice-known3 .given i .fits),
+    none-underway (stepAt (keptIn (args .kept .now))) _ (args .events .now) (args .out .now),
+  ),
+)
 
 sub-goes-on : tie.Need-sub-goes-on Inv-loop μ-loop
-sub-goes-on c = c .loop .inv .1 .1 .1 .within
+sub-goes-on c = c .loop .inv .1 .1 .within
 
 mul-goes-on : tie.Need-mul-goes-on Inv-loop μ-loop
-mul-goes-on c = let h = c .loop .inv .1 .1 .1 .fits in search needs
+mul-goes-on c = let h = c .loop .inv .1 .1 .fits in search needs
 
 sub-goes-on-2 : tie.Need-sub-goes-on-2 Inv-loop μ-loop
-sub-goes-on-2 c = c .loop .inv .1 .1 .1 .fits
+sub-goes-on-2 c = c .loop .inv .1 .1 .fits
 
 goes-on-requires : tie.Need-goes-on-requires Inv-loop μ-loop
 goes-on-requires c κs = search needs
 
 mul-at : tie.Need-mul-at Inv-loop μ-loop
-mul-at c = let h = c .before .before .loop .inv .1 .1 .1 .within in search needs
+mul-at c = let h = c .before .before .loop .inv .1 .1 .within in search needs
 
 add-end : tie.Need-add-end Inv-loop μ-loop
 add-end c = let g = goes-true _ _ _ _ (c .before .goes-on .ensures) (c .if1 .taken) in
     omega (arith, g .more, c .before .before .before .before .before .before .before .before .before .good .1 .0 .0)
 
 mul-from : tie.Need-mul-from Inv-loop μ-loop
-mul-from c = let h = c .before .before .loop .inv .1 .1 .1 .fits in search needs
+mul-from c = let h = c .before .before .loop .inv .1 .1 .fits in search needs
 
 sub-step : tie.Need-sub-step Inv-loop μ-loop
 sub-step c = search needs
@@ -63,10 +69,10 @@ part-step-end : tie.Need-part-step-end Inv-loop μ-loop
 part-step-end c = let g = goes-true _ _ _ _ (c .before .goes-on .ensures) (c .if1 .taken) in omega (arith, g .more)
 
 sub-step-2 : tie.Need-sub-step-2 Inv-loop μ-loop
-sub-step-2 c = c .before .before .before .before .before .before .loop .inv .1 .1 .1 .fits
+sub-step-2 c = c .before .before .before .before .before .before .loop .inv .1 .1 .fits
 
 part-step-start-2 : tie.Need-part-step-start-2 Inv-loop μ-loop
-part-step-start-2 c = c .before .before .before .before .before .before .loop .inv .1 .1 .1 .fits
+part-step-start-2 c = c .before .before .before .before .before .before .loop .inv .1 .1 .fits
 
 part-step-end-2 : tie.Need-part-step-end-2 Inv-loop μ-loop
 part-step-end-2 c = le-refl _
@@ -79,7 +85,7 @@ step-requires c κs = let at-if1 = c .before .before .before .before .before in
     let p = at-loop .before .before .before .before .before .before .before .pre in
     let goes = goes-true _ _ _ _ (at-goes-on .goes-on .ensures) (at-if1 .if1 .taken) in
     let rest = rest-wide (4 * at-loop .loop .listed) _ (at-loop .loop .out) (goes .wide) in
-    ((p .0 .0, omega (arith, inv .0, p .0 .1)), (omega (arith, inv .1 .0, p .1 .0), (omega (arith, inv .1 .1 .0, p .1 .1), rest)))
+    ((p .0 .0, omega (arith, inv .0 .0, p .0 .1)), (omega (arith, inv .0 .1 .0, p .1 .0), (omega (arith, inv .0 .1 .1, p .1 .1), rest)))
 
 cast-listed : tie.Need-cast-listed Inv-loop μ-loop
 cast-listed c = search needs
@@ -89,27 +95,21 @@ add-listed c = let stepped = c .before .before .before .before .before .before .
     let at-if1 = stepped .before .before .before .before .before .before in
     let at-goes-on = at-if1 .before in
     let at-loop = at-goes-on .before in
-    let u = at-loop .loop .inv .1 .1 .1 in
+    let u = at-loop .loop .inv .1 .1 in
     let goes = goes-true _ _ _ _ (at-goes-on .goes-on .ensures) (at-if1 .if1 .taken) in
-    let start = at-loop .before .before .before .before .before .before .before in
-    let came = step-came (keptIn (start .args .kept .now)) _ _ _ _ _ _ (stepped .step .ensures .0) in
-    let turn = turn-underway _ _ _ _ _ u goes _ came (search needs) (stepped .step .ensures .1) in
-    omega (arith, turn .fits, turn .long, start .good .1 .1 .1 .1 .1 .0)
+    let good = at-loop .before .before .before .before .before .before .before .good in
+    omega (arith, goes .wide, u .fits, u .long, stepped .step .ensures .1, good .1 .1 .1 .1 .1 .0)
 
 cast-taken : tie.Need-cast-taken Inv-loop μ-loop
 cast-taken c = search needs
 
 add-taken : tie.Need-add-taken Inv-loop μ-loop
-add-taken c = let stepped = c .before .before .before .before .before .before .before .before .before in
-    let at-if1 = stepped .before .before .before .before .before .before in
+add-taken c = let at-if1 = c .before .before .before .before .before .before .before .before .before .before .before .before .before .before .before in
     let at-goes-on = at-if1 .before in
     let at-loop = at-goes-on .before in
-    let u = at-loop .loop .inv .1 .1 .1 in
     let goes = goes-true _ _ _ _ (at-goes-on .goes-on .ensures) (at-if1 .if1 .taken) in
-    let start = at-loop .before .before .before .before .before .before .before in
-    let came = step-came (keptIn (start .args .kept .now)) _ _ _ _ _ _ (stepped .step .ensures .0) in
-    let turn = turn-underway _ _ _ _ _ u goes _ came (search needs) (stepped .step .ensures .1) in
-    omega (arith, turn .within, start .good .1 .0)
+    let good = at-loop .before .before .before .before .before .before .before .good in
+    omega (arith, goes .more, boolByte-le (eqb (c .before .before .before .before .before .before .before .before .before .step .result .refusal) 0), good .1 .0)
 
 loop-less : tie.Need-loop-less Inv-loop μ-loop
 loop-less c = let stepped = c .before .before .before .before .before .before .before .before .before in
@@ -123,38 +123,43 @@ loop-less c = let stepped = c .before .before .before .before .before .before .b
 
 loop-again : tie.Need-loop-again Inv-loop μ-loop
 loop-again c = (
-  search needs,
-  (
-    search needs,
-    (
-      search needs,
-      let stepped = c .before .before .before .before .before .before .before .before .before in
-          let at-if1 = stepped .before .before .before .before .before .before in
-          let at-goes-on = at-if1 .before in
-          let at-loop = at-goes-on .before in
-          let u = at-loop .loop .inv .1 .1 .1 in
-          let goes = goes-true _ _ _ _ (at-goes-on .goes-on .ensures) (at-if1 .if1 .taken) in
-          let start = at-loop .before .before .before .before .before .before .before in
-          let came = step-came (keptIn (start .args .kept .now)) _ _ _ _ _ _ (stepped .step .ensures .0) in
-          turn-underway _ _ _ _ _ u goes _ came (search needs) (stepped .step .ensures .1),
-    ),
-  ),
+  (search needs, (search needs, search needs)),
+  let at-nodes = c .before .before .before in
+      let at-elements = at-nodes .before .before in
+      let stepped = at-elements .before .before .before .before in
+      let at-if1 = stepped .before .before .before .before .before .before in
+      let at-goes-on = at-if1 .before in
+      let at-loop = at-goes-on .before in
+      let l = at-loop .loop in
+      let inv = l .inv in
+      let start = at-loop .before .before .before .before .before .before .before in
+      let goes = goes-true _ _ _ _ (at-goes-on .goes-on .ensures) (at-if1 .if1 .taken) in
+      let long-elements = inv .0 .1 .0 ∙ start .pre .1 .0 in
+      let long-nodes = inv .0 .1 .1 ∙ start .pre .1 .1 in
+      let came =
+      step-came (keptIn (start .args .kept .now)) (numbersIn (l .numbers)) (l .elements) (l .nodes) _ _ long-elements long-nodes (inv .1 .0 .0) (inv .1 .0 .1)
+      _ _ _ _ _ _ (search needs) (search needs) (λ i. at-elements .slice-known6 .given i .fits) (λ i. at-nodes .slice-known7 .given i .fits)
+      (stepped .step .ensures .0) in
+      (
+        (λ i. at-elements .slice-known6 .given i .fits, λ i. at-nodes .slice-known7 .given i .fits),
+        turn-underway _ _ _ _ _ (inv .1 .1) goes _ _ _ _ came (search (needs, c .before .before .out .given)) (stepped .step .ensures .1),
+      ),
 )
 
 same-length : tie.Need-same-length Inv-loop μ-loop
-same-length c = c .before .before .loop .inv .0
+same-length c = c .before .before .loop .inv .0 .0
 
 same-length-2 : tie.Need-same-length-2 Inv-loop μ-loop
-same-length-2 c = c .before .before .loop .inv .1 .0
+same-length-2 c = c .before .before .loop .inv .0 .1 .0
 
 same-length-3 : tie.Need-same-length-3 Inv-loop μ-loop
-same-length-3 c = c .before .before .loop .inv .1 .1 .0
+same-length-3 c = c .before .before .loop .inv .0 .1 .1
 
 same-length-4 : tie.Need-same-length-4 Inv-loop μ-loop
-same-length-4 c = c .before .before .loop .inv .1 .1 .1 .long
+same-length-4 c = c .before .before .loop .inv .1 .1 .long
 
 returns : tie.Need-returns Inv-loop μ-loop
-returns c = let u = c .before .before .loop .inv .1 .1 .1 in
+returns c = let u = c .before .before .loop .inv .1 .1 in
     (underway-done _ _ _ _ _ u _ (c .before .goes-on .ensures) (c .if1 .left), (omega (arith, u .within), u .fits))
 
 pub feed-spec : {M : Type 1} → statement M

@@ -202,34 +202,37 @@ module _ {S : Type 0} where
 
     pub turn-underway :
         (s : S) (es out : List ℕ) (r : Fed S) → Underway take-one s es out r → Goes (length es / 8 - r .taken) (r .refusal) (length (r .out) - 4 * r .listed) →
-        (c : Came S) → c ≡ take-one (r .seat) (recordAt (8 * r .taken) es) (restOf (4 * r .listed) (r .out)) →
-        length (c .out) ≡ length (restOf (4 * r .listed) (r .out)) → 4 * c .given ≤ outputNeeded →
+        (refusal given : ℕ) (t : S) (o : List ℕ) →
+        _≡_ {A = Came S} (record { refusal = refusal; given = given; seat = t; out = o })
+        (take-one (r .seat) (recordAt (8 * r .taken) es) (restOf (4 * r .listed) (r .out))) →
+        length o ≡ length (restOf (4 * r .listed) (r .out)) → 4 * given ≤ outputNeeded →
         Underway take-one s es out
         (record {
-          seat = c .seat;
-          taken = r .taken + boolByte (eqb (c .refusal) 0);
-          listed = r .listed + c .given;
-          refusal = c .refusal;
-          out = givenBack (4 * r .listed) (r .out) (c .out);
+          seat = t;
+          taken = r .taken + boolByte (eqb refusal 0);
+          listed = r .listed + given;
+          refusal = refusal;
+          out = givenBack (4 * r .listed) (r .out) o;
         })
     unfolding andThen
-    turn-underway s es out r so goes c is el few =
-        let e : givenBack (4 * r .listed) (r .out) (c .out) ≡ take (4 * r .listed) (r .out) ++ c .out = rest-back (4 * r .listed) (r .out) (c .out) in
-        let k : length (take (4 * r .listed) (r .out) ++ c .out) ≡ length (r .out) =
+    turn-underway s es out r so goes refusal given t o is el few =
+        let c : Came S = record { refusal = refusal; given = given; seat = t; out = o } in
+        let e : givenBack (4 * r .listed) (r .out) o ≡ take (4 * r .listed) (r .out) ++ o = rest-back (4 * r .listed) (r .out) o in
+        let k : length (take (4 * r .listed) (r .out) ++ o) ≡ length (r .out) =
         length-andThen r (one c) (so .fits) (el ∙ ap length (rest-lent (4 * r .listed) (r .out))) in
         record {
           told =
               ap (λ (x : List ℕ). resumed take-one (length es / 8) es (record {
-                seat = c .seat;
-                taken = r .taken + boolByte (eqb (c .refusal) 0);
-                listed = r .listed + c .given;
-                refusal = c .refusal;
+                seat = t;
+                taken = r .taken + boolByte (eqb refusal 0);
+                listed = r .listed + given;
+                refusal = refusal;
                 out = x;
               })) e
               ∙ turn-is (length es / 8) es r (goes .unrefused) (so .fits) (omega (arith, goes .more)) (goes .wide) c
               (is ∙ ap₂ (take-one (r .seat)) (record-lent (8 * r .taken) es) (rest-lent (4 * r .listed) (r .out)))
               ∙ so .told;
-          within = omega (arith, goes .more, boolByte-le (eqb (c .refusal) 0));
+          within = omega (arith, goes .more, boolByte-le (eqb refusal 0));
           fits = omega (arith, goes .wide, so .fits, few, k, ap length e);
           long = ap length e ∙ k ∙ so .long;
         }

@@ -28,7 +28,7 @@ use Rattle.node.specs.Node.Laws.{nodes-laid, nodes-same}
 use Rattle.numbers.specs.Numbers.{Numbers, numbersIn}
 use Rattle.plan_bytes.specs.Kept.{keptIn}
 use Rattle.step.specs.Step.{outputNeeded, After, after, step}
-use Rattle.step.specs.Step.Laws.{refused-same}
+use Rattle.step.specs.Step.Left.{refused-same}
 use Rattle.lent.specs.declared.Session.{Session}
 use Rattle.lent.specs.declared.Answer.{Answer}
 use Rattle.lent.specs.declared.Answer.the-variants.{Refused, Taken}

@@ -6,11 +6,10 @@
 --   open-refused, open-full, open-done      an open that its numbers refuse; refusal 7; one that is taken
 --   close-refused, close-done               a close that is refused; one that is taken
 --   move-told, count-open, count-close      the nodes of the innermost element; the numbers afterwards
---   refused-same            a refused event leaves all as it was
 --   step-read-as            any event, by how its bytes were read
 --
 -- What is large is given explicitly. Assumes nothing.
-use Prim.Native.Nat.{ℕ, suc, _+_, _-_, _*_, _%_, _^_, _≤_, _<_}
+use Prim.Native.Nat.{ℕ, _+_, _-_, _*_, _%_, _^_, _≤_, _<_}
 use native.Mathlib.Numerals.{add-one}
 use native.Mathlib.Omega.{arith}
 use mathlib.Core.Path.{_≡_, refl, sym, ap, ap₂, _∙_}
@@ -19,22 +18,21 @@ use mathlib.Core.List.{List, [], _∷_, _++_}
 use mir.Val.{boolByte}
 use lib.Dec.{eqb, leb, ltb}
 use lib.ListN.{length, getD, set, take, drop, take-append-drop}
-use lib.Seq.{take-suc, take-suc-set, take-all, take-at, drop-at, length-take-le}
+use lib.Seq.{take-suc, take-suc-set, take-all, take-at, length-take-le}
 use borrow.Author.Tests.{eq-eqb, ne-eqb, le-leb, lt-leb, lt-ltb, le-ltb, leb-false}
-use Rattle.choice.specs.Pick.{pick, pick-yes, pick-no, pick-true, pick-false, pick-either}
+use Rattle.choice.specs.Pick.{pick, pick-yes, pick-no, pick-true, pick-false}
 use Rattle.meaning.specs.Record.{eventOf}
 use Rattle.records.specs.declared.Event.{Event}
-use Rattle.records.specs.declared.Event.the-variants.{Open, Close, Bad}
 use Rattle.records.specs.Read.{shown}
 use Rattle.sets.specs.Set.{meet, without}
 use Rattle.plan.specs.Plan.{Plan, named, lastGiven}
-use Rattle.engine.specs.Quick.{Frame, Waiting, State, Rise, rise, framesAfter, sureAt, possAt, Opening, opening, openingFrom, judged, over, wentIf, cut}
+use Rattle.engine.specs.Quick.{Frame, Rise, rise, framesAfter, sureAt, possAt, Opening, opening, openingFrom, judged, over, wentIf, cut}
 use Rattle.engine.specs.Quick.Snoc.{framesAfter-length}
 use Rattle.element.specs.Element.{mostOpen, elementsRoom, Elements, elementsIn, frameAt}
 use Rattle.element.specs.Element.Laws.{frames-length}
 use Rattle.element.specs.Element.Laws as element
 use Rattle.elements.specs.Elements as elements
-use Rattle.elements.specs.Elements.{Risen, pushedIn, pushedBy}
+use Rattle.elements.specs.Elements.{Risen, pushedIn}
 use Rattle.elements.specs.Elements.Laws.{sure-front, possible-front}
 use Rattle.node.specs.Node.{mostHeld, Queue, queueIn}
 use Rattle.node.specs.Node.Laws.{nodes-length}
@@ -358,37 +356,3 @@ pub step-read-as :
     (P : Plan) (bytes : List ℕ) (e : Event) (n : Numbers) (E : Elements) (N : Queue) (out : List ℕ) (a : After) → e ≡ shown (eventOf bytes) →
     a ≡ step P e n E N out → a ≡ step P (shown (eventOf bytes)) n E N out
 step-read-as P bytes e n E N out a is so = so ∙ ap (λ (y : Event). step P y n E N out) is
-
--- a refused event leaves all as it was
-
-module _ (P : Plan) (n : Numbers) (E : Elements) (N : Queue) (out : List ℕ) where
-  Kept : After → Type 0
-  Kept a = (a .refusal ≡ 0 → ⊥) → a ≡ refusedWith (a .refusal) n E N out
-
-  kept-refused : (r : ℕ) → Kept (refusedWith r n E N out)
-  unfolding Kept
-  kept-refused r f = refl
-
-  kept-open : (x : ℕ) → Kept (openTaken P x n E N out)
-  unfolding Kept openTaken
-  kept-open x f = absurd (f refl)
-
-  kept-close : Kept (closeTaken P n E N out)
-  unfolding Kept closeTaken
-  kept-close f = absurd (f refl)
-
-  kept-step : (e : Event) → Kept (step P e n E N out)
-  unfolding step onOpen onClose
-  kept-step (Open x) =
-      pick-either Kept (eqb (refuseOpen n) 0) _ _
-      (pick-either Kept (overIn P x (n .depth) (n .held) E N) _ _ (kept-refused 7) (kept-open x)) (kept-refused (refuseOpen n))
-  kept-step (Close x) = pick-either Kept (eqb (refuseClose n E x) 0) _ _ kept-close (kept-refused (refuseClose n E x))
-  kept-step Bad = kept-refused 2
-
-  pub refused-same :
-      (e : Event) (a : After) → a ≡ step P e n E N out → (a .refusal ≡ 0 → ⊥) → (a .elements ≡ E) × ((a .nodes ≡ N) × (a .out ≡ out))
-  unfolding Kept
-  refused-same e a is f =
-      let k : a ≡ refusedWith (step P e n E N out .refusal) n E N out =
-      is ∙ kept-step e (λ z. f (ap (λ (y : After). y .refusal) is ∙ z)) in
-      (ap (λ (y : After). y .elements) k, (ap (λ (y : After). y .nodes) k, ap (λ (y : After). y .out) k))

@@ -1,0 +1,78 @@
+-- What a step leaves in lent bytes, and that the promise of feed allows one result.
+--
+--   step-came         what a step answered, as what one event comes to
+--   whole-step        a step leaves the rooms as long as they must be, and says by 0 or 1 whether the document element has been closed
+--   feed-one          two results that the promise allows are equal, and so is all that was lent
+--
+-- What is large is given explicitly. Assumes nothing.
+use Prim.Native.Nat.{ℕ, _≤_}
+use mathlib.Core.Path.{_≡_, refl, sym, ap, _∙_}
+use mathlib.Core.Bool.{Bool, true, false}
+use mathlib.Core.List.{List}
+use lib.Dec.{eqb}
+use lib.ListN.{length}
+use borrow.Author.Tests.{eqb-true, eqb-false}
+use Rattle.choice.specs.Pick.{pick, pick-yes, pick-no, pick-either}
+use Rattle.meaning.specs.Record.{eventOf}
+use Rattle.records.specs.Read.{shown}
+use Rattle.plan.specs.Plan.{Plan}
+use Rattle.words.specs.Words.{Bytes}
+use Rattle.words.specs.Records.{laid}
+use Rattle.element.specs.Element as element
+use Rattle.element.specs.Element.{elementsRoom, elementsIn}
+use Rattle.element.specs.Element.Laws.{elements-laid, elements-same}
+use Rattle.node.specs.Node as node
+use Rattle.node.specs.Node.{nodesRoom, queueIn}
+use Rattle.node.specs.Node.Laws.{nodes-laid, nodes-same}
+use Rattle.numbers.specs.Numbers.{Numbers}
+use Rattle.step.specs.Step.{After, after, step}
+use Rattle.step.specs.Step.Left.{refused-same, ended-said}
+use Rattle.feed.specs.declared.Fed as struct
+use Rattle.feed.specs.Fed.{Came, Fed}
+use Rattle.feed.specs.Steps.{Seat, seat, came, cameTo, stepAt, Whole, FeedGives}
+
+-- E′ and N′ are what the rooms hold on return
+module _ (P : Plan) (n : Numbers) (E N bytes out : List ℕ) (longE : length E ≡ elementsRoom) (longN : length N ≡ nodesRoom) (bE : Bytes E) (bN : Bytes N)
+    (refusal given : ℕ) (n′ : Numbers) (E′ N′ out′ : List ℕ) (longE′ : length E′ ≡ elementsRoom) (longN′ : length N′ ≡ nodesRoom) (bE′ : Bytes E′)
+    (bN′ : Bytes N′)
+    (stepped : after refusal given n′ (elementsIn E′) (queueIn N′) out′ ≡ step P (shown (eventOf bytes)) n (elementsIn E) (queueIn N) out) where
+  same :
+      {g g′ : ℕ} {m m′ : Numbers} {A A′ B B′ C C′ : List ℕ} (r : ℕ) → g ≡ g′ → m ≡ m′ → A ≡ A′ → B ≡ B′ → C ≡ C′ →
+      came r g (seat m A B) C ≡ came r g′ (seat m′ A′ B′) C′
+  same r e₁ e₂ e₃ e₄ e₅ = λ i. came r (e₁ i) (seat (e₂ i) (e₃ i) (e₄ i)) (e₅ i)
+
+  came-refused : (refusal ≡ 0 → ⊥) → came refusal given (seat n′ E′ N′) out′ ≡ came refusal 0 (seat n E N) out
+  came-refused f =
+      let k = refused-same P n (elementsIn E) (queueIn N) out (shown (eventOf bytes)) _ stepped f in
+      same refusal (ap (λ (y : After). y .given) k) (ap (λ (y : After). y .numbers) k)
+      (elements-same E′ E longE′ longE bE′ bE (ap (λ (y : After). y .elements) k))
+      (nodes-same N′ N longN′ longN bN′ bN (ap (λ (y : After). y .nodes) k)) (ap (λ (y : After). y .out) k)
+
+  either :
+      (b : Bool) → eqb refusal 0 ≡ b →
+      came refusal given (seat n′ E′ N′) out′ ≡ cameTo (seat n E N) out (after refusal given n′ (elementsIn E′) (queueIn N′) out′)
+  unfolding cameTo
+  either true e =
+      pick-yes _ _ _ _ e
+      (ap (λ (r : ℕ). came r given (seat n′ E′ N′) out′) (eqb-true _ _ e)
+      ∙ same 0 refl refl (sym (elements-laid E′ longE′ bE′)) (sym (nodes-laid N′ longN′ bN′)) refl)
+  either false e = pick-no _ _ _ _ e (came-refused (eqb-false _ _ e))
+
+  pub step-came :
+      _≡_ {A = Came Seat}
+      (record { refusal = refusal; given = given; seat = record { numbers = n′; elements = E′; nodes = N′ }; out = out′ })
+      (stepAt P (seat n E N) bytes out)
+  unfolding stepAt
+  step-came = either (eqb refusal 0) refl ∙ ap (cameTo (seat n E N) out) stepped
+
+pub feed-one :
+    (P : Plan) (s : Seat) (es out : List ℕ) (r r′ : struct.Fed) (t t′ : Seat) (o o′ : List ℕ) → FeedGives P s es out r t o →
+    FeedGives P s es out r′ t′ o′ → (r ≡ r′) × ((t ≡ t′) × (o ≡ o′))
+feed-one P s es out r r′ t t′ o o′ g g′ =
+    let e = g ∙ sym g′ in
+    let e-taken = ap (λ (f : Fed Seat). f .taken) e in
+    let e-listed = ap (λ (f : Fed Seat). f .listed) e in
+    let e-refusal = ap (λ (f : Fed Seat). f .refusal) e in (
+      λ i. record { taken = e-taken i; listed = e-listed i; refusal = e-refusal i },
+      (ap (λ (f : Fed Seat). f .seat) e, ap (λ (f : Fed Seat). f .out) e),
+    )
