@@ -15,6 +15,7 @@
 --
 -- Assumes nothing. NOT here: what one event does (Steps).
 pub mod Laws
+pub mod Across
 use Prim.Native.Nat.{ℕ, zero, suc, _+_, _-_, _*_, _/_, _≤_, _<_}
 use mathlib.Core.Path.{_≡_}
 use mathlib.Core.Bool.{Bool, false}

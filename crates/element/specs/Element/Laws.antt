@@ -91,6 +91,10 @@ module _ (bs : List ℕ) (i : ℕ) (h : i < mostOpen) where
       let s₄ = again _ (withField shape 4 0) E₃ E₄ s₃ e₄ in
       again _ (withField shape 5 possible) E₄ E₅ s₄ e₅ ∙ ap (λ f. setAt i f E) (unfold pick in refl)
 
+pub elements-long : (R : Elements) → length (laid shape R) ≡ elementsRoom
+unfolding elementsRoom
+elements-long = records.laid-length shape whole
+
 pub elements-laid : (bs : List ℕ) → length bs ≡ elementsRoom → Bytes bs → laid shape (elementsIn bs) ≡ bs
 unfolding elementsIn elementsRoom
 elements-laid = records.records-laid shape whole

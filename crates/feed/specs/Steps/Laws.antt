@@ -1,6 +1,7 @@
 -- What a step leaves in lent bytes, and that the promise of feed allows one result.
 --
 --   step-came         what a step answered, as what one event comes to
+--   refused-at        a refused step leaves all as it was
 --   whole-step        a step leaves the rooms as long as they must be, and says by 0 or 1 whether the document element has been closed
 --   feed-one          two results that the promise allows are equal, and so is all that was lent
 --
@@ -20,10 +21,10 @@ use Rattle.words.specs.Words.{Bytes}
 use Rattle.words.specs.Records.{laid}
 use Rattle.element.specs.Element as element
 use Rattle.element.specs.Element.{elementsRoom, elementsIn}
-use Rattle.element.specs.Element.Laws.{elements-laid, elements-same}
+use Rattle.element.specs.Element.Laws.{elements-long, elements-laid, elements-same}
 use Rattle.node.specs.Node as node
 use Rattle.node.specs.Node.{nodesRoom, queueIn}
-use Rattle.node.specs.Node.Laws.{nodes-laid, nodes-same}
+use Rattle.node.specs.Node.Laws.{nodes-long, nodes-laid, nodes-same}
 use Rattle.numbers.specs.Numbers.{Numbers}
 use Rattle.step.specs.Step.{After, after, step}
 use Rattle.step.specs.Step.Left.{refused-same, ended-said}
@@ -64,6 +65,26 @@ module _ (P : Plan) (n : Numbers) (E N bytes out : List ℕ) (longE : length E �
       (stepAt P (seat n E N) bytes out)
   unfolding stepAt
   step-came = either (eqb refusal 0) refl ∙ ap (cameTo (seat n E N) out) stepped
+
+module _ (P : Plan) (s : Seat) (bytes out : List ℕ) where
+  abbrev stepped : After
+  stepped = step P (shown (eventOf bytes)) (s .numbers) (elementsIn (s .elements)) (queueIn (s .nodes)) out
+
+  pub refused-at : (stepAt P s bytes out .refusal ≡ 0 → ⊥) → stepAt P s bytes out ≡ came (stepAt P s bytes out .refusal) 0 s out
+  unfolding stepAt cameTo
+  refused-at =
+      pick-either (λ (c : Came Seat). (c .refusal ≡ 0 → ⊥) → c ≡ came (c .refusal) 0 s out) (eqb (stepped .refusal) 0) _ _ (λ f. absurd (f refl)) (λ f. refl)
+
+  pub whole-step : Whole s → Whole (stepAt P s bytes out .seat)
+  unfolding stepAt cameTo
+  whole-step w =
+      pick-either (λ (c : Came Seat). Whole (c .seat)) (eqb (stepped .refusal) 0) _ _
+      (record {
+        elements = elements-long (stepped .elements);
+        nodes = nodes-long (stepped .nodes);
+        said = ended-said P (s .numbers) (elementsIn (s .elements)) (queueIn (s .nodes)) out (w .said) (shown (eventOf bytes));
+      })
+      w
 
 pub feed-one :
     (P : Plan) (s : Seat) (es out : List ℕ) (r r′ : struct.Fed) (t t′ : Seat) (o o′ : List ℕ) → FeedGives P s es out r t o →

@@ -73,6 +73,10 @@ module _ (bs : List ℕ) (i : ℕ) (h : i < mostHeld) where
       let s₂ = again _ (withField shape 1 level) N₁ N₂ e₁ e₂ in
       again _ (withField shape 2 need) N₂ N₃ s₂ e₃ ∙ ap (λ w. setAt i w N) (unfold pick in refl)
 
+pub nodes-long : (R : Queue) → length (laid shape R) ≡ nodesRoom
+unfolding nodesRoom
+nodes-long = records.laid-length shape whole
+
 pub nodes-laid : (bs : List ℕ) → length bs ≡ nodesRoom → Bytes bs → laid shape (queueIn bs) ≡ bs
 unfolding queueIn nodesRoom
 nodes-laid = records.records-laid shape whole

@@ -5,6 +5,7 @@
 --   get-is            a number read is a field read
 --   put-is            a number written is a field written
 --   again             two writes to one record
+--   laid-length       how many bytes records take
 --   records-laid      bytes are those of their records;  records-same: so bytes with the same records are the same
 --
 -- Assumes nothing.
@@ -21,7 +22,7 @@ use lib.Seq.{getD-set-same, set-set}
 use borrow.Author.Tests.{eqb-true, eqb-false, lt-ltb, le-ltb}
 use Rattle.choice.specs.Pick.{pick, pick-yes, pick-no}
 use Rattle.words.specs.Words.{words, bytesOf, Bytes}
-use Rattle.words.specs.Words.Laws.{words-length, bytes-words}
+use Rattle.words.specs.Words.Laws.{words-length, bytes-words, bytes-length}
 use Rattle.words.specs.Rows.{rows, field, rows-length, rows-at, rows-same, rows-put, is-rows, field-put, field-other}
 use Rattle.words.specs.Records.{Shape, Records, setAt, room, blank, withField, spareOf, recordsOf, recordsIn, at, putAt, numberAt, numbersOf, laid}
 
@@ -145,6 +146,10 @@ module _ {A : Type 0} (S : Shape A) (whole : Whole S) where
     where
       under : (j : ℕ) → j < w * S .count → j / w < S .count
       under j h = div-lt-iff-lt-mul {k = w} {x = j} {y = S .count} (whole .some) .1 (subst (λ n. j < n) (mul-comm w (S .count)) h)
+
+  pub laid-length : (R : Records A) → length (laid S R) ≡ room S
+  unfolding room laid numbersOf
+  laid-length R = bytes-length (numbersOf S R) ∙ ap (λ n. 4 * n) (rows-length (w * S .count) (λ j. numberAt S R (j / w) (j % w)))
 
   pub records-laid : (bs : List ℕ) → length bs ≡ room S → Bytes bs → laid S (recordsIn S bs) ≡ bs
   unfolding room recordsIn laid

@@ -2,7 +2,7 @@
 --
 --   words-at        the number at a place is that of its 4 bytes
 --   words-put       a number written byte by byte is one number written
---   words-length    how many numbers there are
+--   words-length    how many numbers there are;  bytes-length: how many bytes
 --   bytes-words     the bytes of the numbers of bytes are these, where their length is a multiple of 4
 --   words-bytes     the numbers of the bytes of numbers under 2 ^ 32 are these
 --   bytes-same      so bytes of one length with the same numbers are the same
@@ -118,6 +118,11 @@ pub words-bytes : (ws : List ℕ) → ((i : ℕ) → getD ws i 0 < 4294967296) �
 unfolding words bytesOf
 words-bytes [] h = refl
 words-bytes (v ∷ ws) h = ap₂ _∷_ (word-bytes v (h 0)) (words-bytes ws (λ i. h (suc i)))
+
+pub bytes-length : (ws : List ℕ) → length (bytesOf ws) ≡ 4 * length ws
+unfolding bytesOf
+bytes-length [] = refl
+bytes-length (v ∷ ws) = omega (arith, bytes-length ws)
 
 pub bytes-same :
     (n : ℕ) (bs cs : List ℕ) → length bs ≡ 4 * n → length cs ≡ 4 * n → Bytes bs → Bytes cs → words bs ≡ words cs → bs ≡ cs
