@@ -3,7 +3,7 @@
 --   Done                     an event's answer, the next session, and all that was lent, byte for byte
 --   refused n s E N out      a refusal: all as it was
 --   numbersOf s, withNumbers s n       the session's numbers; the same session with the numbers n
---   settled s E N out a      what a step that came to a leaves in the room that is needed
+--   settled s E N out c      what a step that came to c leaves in the room that is needed
 --   within s bytes E N out   an event on the room that is needed
 --   event s bytes E N out    an event, by its bytes, on any room
 --   toldAs, toldOf           the same with the answer in document 01's number and values (Told)
@@ -22,17 +22,14 @@ use lib.Dec.{eqb, ltb}
 use lib.ListN.{length, take, drop}
 use Rattle.choice.specs.Pick.{pick}
 use Rattle.meaning.specs.Answer as meaning
-use Rattle.meaning.specs.Record.{eventOf}
-use Rattle.records.specs.Read.{shown}
-use Rattle.words.specs.Records.{laid}
-use Rattle.element.specs.Element as element
-use Rattle.element.specs.Element.{elementsRoom, elementsIn}
-use Rattle.node.specs.Node as node
-use Rattle.node.specs.Node.{nodesRoom, queueIn}
+use Rattle.element.specs.Element.{elementsRoom}
+use Rattle.node.specs.Node.{nodesRoom}
 use Rattle.numbers.specs.Numbers as numbers
 use Rattle.numbers.specs.Numbers.{Numbers}
 use Rattle.plan_bytes.specs.Kept.{keptIn}
-use Rattle.step.specs.Step.{outputNeeded, After, step}
+use Rattle.step.specs.Step.{outputNeeded}
+use Rattle.feed.specs.Fed.{Came}
+use Rattle.feed.specs.Steps.{Seat, seat, stepAt}
 use Rattle.lent.specs.declared.Session.{Session}
 use Rattle.lent.specs.declared.Answer.{Answer}
 use Rattle.lent.specs.declared.Answer.the-variants.{Refused, Taken}
@@ -67,20 +64,20 @@ withNumbers s n =
     }
 
 -- "A refused call leaves the lent room as it was, too"
-unfoldable pub settled : Session → List ℕ → List ℕ → List ℕ → After → Done
-settled s E N out a =
-    pick (eqb (a .refusal) 0)
+unfoldable pub settled : Session → List ℕ → List ℕ → List ℕ → Came Seat → Done
+settled s E N out c =
+    pick (eqb (c .refusal) 0)
     (record {
-      answer = Taken (a .given);
-      session = withNumbers s (a .numbers);
-      elements = laid element.shape (a .elements);
-      nodes = laid node.shape (a .nodes);
-      out = a .out;
+      answer = Taken (c .given);
+      session = withNumbers s (c .seat .numbers);
+      elements = c .seat .elements;
+      nodes = c .seat .nodes;
+      out = c .out;
     })
-    (refused (a .refusal) s E N out)
+    (refused (c .refusal) s E N out)
 
 unfoldable pub within : Session → List ℕ → List ℕ → List ℕ → List ℕ → Done
-within s bytes E N out = settled s E N out (step (keptIn (s .kept)) (shown (eventOf bytes)) (numbersOf s) (elementsIn E) (queueIn N) out)
+within s bytes E N out = settled s E N out (stepAt (keptIn (s .kept)) (seat (numbersOf s) E N) bytes out)
 
 -- the bytes past the needed ones are never touched
 abbrev pub beside : List ℕ → List ℕ → Done → Done

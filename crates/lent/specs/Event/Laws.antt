@@ -18,17 +18,14 @@ use Rattle.choice.specs.Pick.{pick-yes, pick-no}
 use Rattle.meaning.specs.Record.{eventOf}
 use Rattle.records.specs.Read.{shown}
 use Rattle.words.specs.Words.{Bytes}
-use Rattle.words.specs.Records.{laid}
-use Rattle.element.specs.Element as element
 use Rattle.element.specs.Element.{elementsRoom, elementsIn}
-use Rattle.element.specs.Element.Laws.{elements-laid, elements-same}
-use Rattle.node.specs.Node as node
 use Rattle.node.specs.Node.{nodesRoom, queueIn}
-use Rattle.node.specs.Node.Laws.{nodes-laid, nodes-same}
 use Rattle.numbers.specs.Numbers.{Numbers, numbersIn}
 use Rattle.plan_bytes.specs.Kept.{keptIn}
-use Rattle.step.specs.Step.{outputNeeded, After, after, step}
-use Rattle.step.specs.Step.Left.{refused-same}
+use Rattle.step.specs.Step.{outputNeeded, after, step}
+use Rattle.feed.specs.Fed.{Came}
+use Rattle.feed.specs.Steps.{Seat, seat, came, stepAt}
+use Rattle.feed.specs.Steps.Laws.{step-came, refused-at}
 use Rattle.lent.specs.declared.Session.{Session}
 use Rattle.lent.specs.declared.Answer.{Answer}
 use Rattle.lent.specs.declared.Answer.the-variants.{Refused, Taken}
@@ -52,20 +49,22 @@ module _ (s : Session) (bytes E N out E′ N′ out′ : List ℕ) (refusal give
     (bN′ : Bytes N′) (laid-as : n ≡ numbersOf s)
     (stepped : after refusal given n′ (elementsIn E′) (queueIn N′) out′
     ≡ step (keptIn (s .kept)) (shown (eventOf bytes)) n (elementsIn E) (queueIn N) out) where
-  whole :
-      after refusal given n′ (elementsIn E′) (queueIn N′) out′
-      ≡ step (keptIn (s .kept)) (shown (eventOf bytes)) (numbersOf s) (elementsIn E) (queueIn N) out
-  whole = stepped ∙ ap (λ m. step (keptIn (s .kept)) (shown (eventOf bytes)) m (elementsIn E) (queueIn N) out) laid-as
+  came-is : came refusal given (seat n′ E′ N′) out′ ≡ stepAt (keptIn (s .kept)) (seat (numbersOf s) E N) bytes out
+  came-is =
+      step-came (keptIn (s .kept)) n E N bytes out longE longN bE bN refusal given n′ E′ N′ out′ longE′ longN′ bE′ bN′ stepped
+      ∙ ap (λ m. stepAt (keptIn (s .kept)) (seat m E N) bytes out) laid-as
 
   pub within-refused :
       (refusal ≡ 0 → ⊥) →
       _≡_ {A = Done} (record { answer = Refused refusal; session = s; elements = E′; nodes = N′; out = out′ }) (within s bytes E N out)
   unfolding within settled
   within-refused f =
-      let k = refused-same _ _ _ _ _ _ _ whole f in
-      same (elements-same E′ E longE′ longE bE′ bE (k .0)) (nodes-same N′ N longN′ longN bN′ bN (k .1 .0)) (k .1 .1)
+      let at : Seat = seat (numbersOf s) E N in
+      let r : refusal ≡ stepAt (keptIn (s .kept)) at bytes out .refusal = ap (λ (c : Came Seat). c .refusal) came-is in
+      let k = came-is ∙ refused-at (keptIn (s .kept)) at bytes out (λ z. f (r ∙ z)) in
+      same (ap (λ (c : Came Seat). c .seat .elements) k) (ap (λ (c : Came Seat). c .seat .nodes) k) (ap (λ (c : Came Seat). c .out) k)
       ∙ pick-no _ _ _ _ (ne-eqb refusal 0 f) refl
-      ∙ ap (settled s E N out) whole
+      ∙ ap (settled s E N out) came-is
     where
       same : {A A′ B B′ C C′ : List ℕ} → A ≡ A′ → B ≡ B′ → C ≡ C′ →
           _≡_ {A = Done} (record { answer = Refused refusal; session = s; elements = A; nodes = B; out = C }) (refused refusal s A′ B′ C′)
@@ -76,14 +75,9 @@ module _ (s : Session) (bytes E N out E′ N′ out′ : List ℕ) (refusal give
       _≡_ {A = Done} (record { answer = Taken given; session = t; elements = E′; nodes = N′; out = out′ }) (within s bytes E N out)
   unfolding within settled
   within-taken t z et =
-      same et (sym (elements-laid E′ longE′ bE′)) (sym (nodes-laid N′ longN′ bN′))
+      ap (λ (u : Session). record { answer = Taken given; session = u; elements = E′; nodes = N′; out = out′ }) et
       ∙ pick-yes _ _ _ _ (eq-eqb refusal 0 z) refl
-      ∙ ap (settled s E N out) whole
-    where
-      same : {u v : Session} {A A′ B B′ : List ℕ} → u ≡ v → A ≡ A′ → B ≡ B′ →
-          _≡_ {A = Done} (record { answer = Taken given; session = u; elements = A; nodes = B; out = out′ })
-          (record { answer = Taken given; session = v; elements = A′; nodes = B′; out = out′ })
-      same p q r = λ i. record { answer = Taken given; session = p i; elements = q i; nodes = r i; out = out′ }
+      ∙ ap (settled s E N out) came-is
 
 -- on any room
 
