@@ -8,7 +8,6 @@
 --   andThen r f              r, and then f with the part of the buffer that r left
 --   fed take-one n s es out      the first n records of es, one event after the other; a refused event is the last
 --   resumed take-one n es r      r, and then what is left of the first n records of es
---   Single c                 a refused event hands out nothing, and no event more than outputNeeded holds
 --   Underway .. r            r is a first part of the events of es
 --   goesOn left refusal room     another event is looked at; Goes: what is then known
 --   recordAt a es, restOf a xs, givenBack a xs ys      parts of slices as code lends them, and the slice when one is given back
@@ -56,9 +55,6 @@ module _ {S : Type 0} where
         refusal = f .refusal;
         out = take (4 * r .listed) (r .out) ++ f .out;
       }
-
-  pub record Single (c : Came S) : Type 0 where
-    pub few : 4 * c .given ≤ outputNeeded
 
   module _ (take-one : S → List ℕ → List ℕ → Came S) where
     -- with less than an event can need no event is looked at; a refused event is the last

@@ -1,7 +1,7 @@
 // A session: one event at a time in, the selected nodes out as soon as they are certain. The room for the open elements and the waiting nodes is lent with
 // each event; the session, by value, keeps only its numbers and what it keeps of its query.
 ghost use mathlib.Core.Path.{_≡_};
-ghost use Prim.Native.Nat.{_≤_};
+ghost use Prim.Native.Nat.{_*_, _≤_};
 ghost use lib.ListN.{length};
 ghost use Rattle.element.specs.Element.{elementsRoom};
 ghost use Rattle.node.specs.Node.{nodesRoom};
@@ -9,6 +9,7 @@ ghost use Rattle.numbers.specs.Numbers.{numbersRoom, numbersIn};
 ghost use Rattle.step.specs.Step.{outputNeeded};
 ghost use Rattle.lent.specs.Begin.{fresh, BeginGives};
 ghost use Rattle.lent.specs.Event.{numbersOf, withNumbers, within, EventGives, FinishGives};
+ghost use Rattle.lent.specs.Run.{ran, runWithin, RunGives};
 use plan::Plan;
 use query::QueryAnswer;
 
@@ -54,6 +55,17 @@ pub enum Start {
 pub struct Begun {
     pub answer: Start,
     pub session: Session,
+}
+
+// What a block of events comes to.
+pub struct Ran {
+    pub session: Session,
+    // How many events were taken.
+    pub taken: usize,
+    // How many list records were written, from the start of the buffer.
+    pub listed: usize,
+    // The refusal's number, or 0.
+    pub refusal: u8,
 }
 
 // A session at the start of its stream.
@@ -188,6 +200,64 @@ impl Session {
         }
         self.within(
             bytes,
+            &mut elements[..limits::ELEMENTS_ROOM],
+            &mut nodes[..limits::NODES_ROOM],
+            out,
+        )
+    }
+
+    // No event is looked at, or the first is refused for want of room.
+    fn stays(self, refusal: u8) -> Ran
+        ensures { λ r. ⌜ r ≡ record { session = self; taken = 0; listed = 0; refusal = refusal } ⌝ }
+    {
+        Ran {
+            session: self,
+            taken: 0,
+            listed: 0,
+            refusal: refusal,
+        }
+    }
+
+    // A block on the room that is needed.
+    fn run_within(self, events: &[u8], elements: &mut [u8], nodes: &mut [u8], out: &mut [u8]) -> Ran
+        requires { ⌜ (length (now elements) ≡ elementsRoom) × (length (now nodes) ≡ nodesRoom) ⌝ }
+        ensures { λ r. ⌜ ran r (now (elements .exit)) (now (nodes .exit)) (now (out .exit))
+            ≡ runWithin self (now (events .entry)) (now (elements .entry)) (now (nodes .entry)) (now (out .entry)) ⌝ }
+        ensures { λ r. ⌜ (8 * r .taken ≤ length (now (events .entry))) × (4 * r .listed ≤ length (now (out .exit))) ⌝ }
+    {
+        let kept = self.kept;
+        let mut numbers = [0u8; 20];
+        self.lay(&mut numbers);
+        let fed = feed::feed(&kept, events, &mut numbers, elements, nodes, out);
+        let session = self.with(&numbers);
+        Ran {
+            session: session,
+            taken: fed.taken,
+            listed: fed.listed,
+            refusal: fed.refusal,
+        }
+    }
+
+    // Takes a block of events, one after the other, until whole records end, one is refused, or less of the buffer is left than an event can need.
+    pub fn run(self, events: &[u8], elements: &mut [u8], nodes: &mut [u8], out: &mut [u8]) -> Ran
+        ensures { λ r. ⌜ RunGives self (now (events .entry)) (now (elements .entry)) (now (nodes .entry)) (now (out .entry)) r
+            (now (elements .exit)) (now (nodes .exit)) (now (out .exit)) ⌝ }
+        ensures { λ r. ⌜ (8 * r .taken ≤ length (now (events .entry))) × (4 * r .listed ≤ length (now (out .exit))) ⌝ }
+    {
+        if events.len() < 8 {
+            return self.stays(0);
+        }
+        if out.len() < limits::OUTPUT {
+            return self.stays(0);
+        }
+        if elements.len() < limits::ELEMENTS_ROOM {
+            return self.stays(limits::SHORT_ROOM);
+        }
+        if nodes.len() < limits::NODES_ROOM {
+            return self.stays(limits::SHORT_ROOM);
+        }
+        self.run_within(
+            events,
             &mut elements[..limits::ELEMENTS_ROOM],
             &mut nodes[..limits::NODES_ROOM],
             out,

@@ -2,7 +2,7 @@
 use borrow.Author.Needs.{needs}
 use native.Mathlib.Omega.{arith}
 use native.Mathlib.Nat.{le-refl}
-use Prim.Native.Nat.{_+_, _-_, _*_, _/_, _≤_}
+use Prim.Native.Nat.{_+_, _-_, _*_, _/_}
 use mathlib.Core.Path.{_≡_, refl, _∙_}
 use mir.Val.{boolByte}
 use lib.Dec.{eqb}
@@ -109,7 +109,8 @@ add-taken c = let at-if1 = c .before .before .before .before .before .before .be
     let at-loop = at-goes-on .before in
     let goes = goes-true _ _ _ _ (at-goes-on .goes-on .ensures) (at-if1 .if1 .taken) in
     let good = at-loop .before .before .before .before .before .before .before .good in
-    omega (arith, goes .more, boolByte-le (eqb (c .before .before .before .before .before .before .before .before .before .step .result .refusal) 0), good .1 .0)
+    let refusal = c .before .before .before .before .before .before .before .before .before .step .result .refusal in
+    omega (arith, goes .more, boolByte-le (eqb refusal 0), good .1 .0)
 
 loop-less : tie.Need-loop-less Inv-loop μ-loop
 loop-less c = let stepped = c .before .before .before .before .before .before .before .before .before in
@@ -139,8 +140,7 @@ loop-again c = (
       let came =
       step-came (keptIn (start .args .kept .now)) (numbersIn (l .numbers)) (l .elements) (l .nodes) _ _ long-elements long-nodes (inv .1 .0 .0) (inv .1 .0 .1)
       _ _ _ _ _ _ (search needs) (search needs) (λ i. at-elements .slice-known6 .given i .fits) (λ i. at-nodes .slice-known7 .given i .fits)
-      (stepped .step .ensures .0) in
-      (
+      (stepped .step .ensures .0) in (
         (λ i. at-elements .slice-known6 .given i .fits, λ i. at-nodes .slice-known7 .given i .fits),
         turn-underway _ _ _ _ _ (inv .1 .1) goes _ _ _ _ came (search (needs, c .before .before .out .given)) (stepped .step .ensures .1),
       ),

@@ -1,13 +1,9 @@
 -- Test by test as its model. Assumes nothing.
-use borrow.Author.Needs.{needs}
-use native.Mathlib.Omega.{arith}
-use mathlib.Core.Path.{refl, ap, sym, _∙_}
+use mathlib.Core.Path.{refl, ap, sym}
 use mathlib.Core.Bool.{false}
 use lib.Dec.{leb}
 use borrow.Author.Tests.{eq-eqb, ne-eqb}
 use Rattle.choice.specs.Pick.{pick-yes, pick-no}
-use Rattle.step.specs.Step.Laws.{output-is, held-is}
-use Rattle.step.specs.Step.{outputNeeded}
 use Rattle.feed.specs.Fed.{goesOn}
 use Rattle.feed.specs.Fed.Laws.{needed-is}
 use Rattle.feed.proofs.goes_on.Statement.{statement}

@@ -6,15 +6,14 @@
 --
 -- Assumes nothing.
 use Prim.Native.Nat.{ℕ, zero, suc, _*_, _≤_}
-use mathlib.Core.Path.{_≡_, refl, sym, ap, ap₂, _∙_}
-use mathlib.Core.Bool.{true, false}
+use mathlib.Core.Path.{_≡_, refl, sym, ap, _∙_}
 use mathlib.Core.List.{List}
 use lib.Dec.{eqb, ltb}
 use lib.ListN.{length, take, drop}
 use borrow.Author.Tests.{ltb-false}
 use Rattle.choice.specs.Pick.{pick, pick-ap, pick-known, pick-yes, pick-no}
 use Rattle.step.specs.Step.{outputNeeded}
-use Rattle.feed.specs.Fed.{Came, Fed, none, one, andThen, fed}
+use Rattle.feed.specs.Fed.{Came, Fed, one, andThen, fed}
 
 module _ {S T : Type 0} (f : T → S) where
   abbrev pub across : Came T → Came S

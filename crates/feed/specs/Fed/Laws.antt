@@ -16,7 +16,7 @@ use mathlib.Core.Path.{_≡_, refl, sym, ap, ap₂, _∙_}
 use mathlib.Core.Bool.{Bool, true, false}
 use mathlib.Core.List.{List, _++_, append-assoc, append-nil}
 use mir.Val.{boolByte}
-use lib.Dec.{eqb, leb, ltb}
+use lib.Dec.{eqb, leb}
 use lib.ListN.{length, take, drop, take-append-drop, length-append, length-drop, drop-of-length-le}
 use lib.Seq.{drop-drop, take-append-add, drop-append-add, length-take-le, take-all}
 use borrow.Author.Tests.{eqb-true, eqb-false, eq-eqb, ne-eqb, leb-true, leb-false, lt-ltb, le-ltb}
@@ -24,7 +24,7 @@ use Rattle.choice.specs.Pick.{pick, pick-true, pick-false, pick-known, never}
 use Rattle.choice.specs.Count.{positive, boolByte-le}
 use Rattle.step.specs.Step.{outputNeeded}
 use Rattle.step.specs.Step.Laws.{output-is, held-is}
-use Rattle.feed.specs.Fed.{Came, Fed, none, one, andThen, Single, fed, resumed, Underway, goesOn, Goes, restOf, recordAt, givenBack}
+use Rattle.feed.specs.Fed.{Came, Fed, none, one, andThen, fed, resumed, Underway, goesOn, Goes, restOf, recordAt, givenBack}
 
 pub needed-is : outputNeeded ≡ 4100
 needed-is = omega (arith, output-is, held-is)

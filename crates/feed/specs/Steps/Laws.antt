@@ -6,19 +6,18 @@
 --   feed-one          two results that the promise allows are equal, and so is all that was lent
 --
 -- What is large is given explicitly. Assumes nothing.
-use Prim.Native.Nat.{ℕ, _≤_}
+use Prim.Native.Nat.{ℕ}
 use mathlib.Core.Path.{_≡_, refl, sym, ap, _∙_}
 use mathlib.Core.Bool.{Bool, true, false}
 use mathlib.Core.List.{List}
 use lib.Dec.{eqb}
 use lib.ListN.{length}
 use borrow.Author.Tests.{eqb-true, eqb-false}
-use Rattle.choice.specs.Pick.{pick, pick-yes, pick-no, pick-either}
+use Rattle.choice.specs.Pick.{pick-yes, pick-no, pick-either}
 use Rattle.meaning.specs.Record.{eventOf}
 use Rattle.records.specs.Read.{shown}
 use Rattle.plan.specs.Plan.{Plan}
 use Rattle.words.specs.Words.{Bytes}
-use Rattle.words.specs.Records.{laid}
 use Rattle.element.specs.Element as element
 use Rattle.element.specs.Element.{elementsRoom, elementsIn}
 use Rattle.element.specs.Element.Laws.{elements-long, elements-laid, elements-same}

@@ -11,15 +11,14 @@ use native.Mathlib.Omega.{arith}
 use mathlib.Core.Path.{_≡_, refl, sym, ap, ap₂, _∙_}
 use mathlib.Core.Bool.{true, false}
 use mathlib.Core.List.{List, []}
-use lib.Dec.{ltb}
 use lib.ListN.{length}
 use borrow.Author.Tests.{lt-ltb, le-ltb}
-use Rattle.choice.specs.Pick.{pick, pick-yes, pick-no, pick-true, pick-false}
+use Rattle.choice.specs.Pick.{pick-true, pick-false}
 use Rattle.plan.specs.declared.Plan.{Plan}
 use Rattle.plan.specs.Planned.{planOf}
 use Rattle.query.specs.declared.QueryAnswer.{QueryAnswer}
 use Rattle.query.specs.declared.QueryAnswer.the-variants.{Admitted, BadLength, BadStep}
-use Rattle.query.specs.Answer.{Answer, admitted, refused, refusedAt, answerTo}
+use Rattle.query.specs.Answer.{answerTo}
 use Rattle.query.specs.Answer as query
 use Rattle.element.specs.Element.{elementsRoom}
 use Rattle.element.specs.Element.Laws as element

@@ -20,7 +20,7 @@ use Rattle.records.specs.Read.{shown}
 use Rattle.words.specs.Words.{Bytes}
 use Rattle.element.specs.Element.{elementsRoom, elementsIn}
 use Rattle.node.specs.Node.{nodesRoom, queueIn}
-use Rattle.numbers.specs.Numbers.{Numbers, numbersIn}
+use Rattle.numbers.specs.Numbers.{Numbers}
 use Rattle.plan_bytes.specs.Kept.{keptIn}
 use Rattle.step.specs.Step.{outputNeeded, after, step}
 use Rattle.feed.specs.Fed.{Came}
