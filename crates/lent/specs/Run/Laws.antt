@@ -44,7 +44,8 @@ bit-back true = refl
 bit-back false = refl
 
 again : (s : Session) → withNumbers s (numbersOf s) ≡ s
-again s = ap (λ (b : Bool). record { kept = s .kept; depth = s .depth; held = s .held; opened = s .opened; handed = s .handed; ended = b }) (bit-back (s .ended))
+again s =
+    ap (λ (b : Bool). record { kept = s .kept; depth = s .depth; held = s .held; opened = s .opened; handed = s .handed; ended = b }) (bit-back (s .ended))
 
 said-bit : (n : ℕ) → n ≤ 1 → boolByte (not (eqb n 0)) ≡ n
 said-bit zero h = refl
