@@ -1,7 +1,7 @@
 -- A run of bytes cut into records, which are offered one after the other up to the first refusal.
 --
 --   Offering              the events accepted by then, and the number of the refusal, if there was one
---   first bs              the call that offers the first record of bs, or what there is of it, with room enough
+--   offer bs              the call that offers the first record of bs, or what there is of it, and lends enough
 --   unlessRefused o es w  a refusal o ends it with the events es; else w
 --   offering q n es bs    the first n records of bs, offered after the accepted events es
 --   pieces bs             how many records bs makes, a shorter last one among them
@@ -13,17 +13,16 @@ use Prim.Native.Nat.{ℕ, zero, suc, _+_, _/_}
 use mathlib.Core.List.{List, []}
 use mathlib.Core.Option.{Option, none, some}
 use lib.ListN.{length, take, drop}
-use Rattle.meaning.specs.Limits.{roomNeeded}
 use Rattle.meaning.specs.Query.{Query}
 use Rattle.meaning.specs.Stream.{Event, document}
-use Rattle.meaning.specs.Answer.{Call, event, refusals, lowest, after}
+use Rattle.meaning.specs.Answer.{enough, Call, event, refusals, first, after}
 
 pub record Offering : Type 0 where
   pub events : List Event
   pub refusal : Option ℕ
 
-abbrev pub first : List ℕ → Call
-first bs = event (take 8 bs) roomNeeded
+abbrev pub offer : List ℕ → Call
+offer bs = event (take 8 bs) enough
 
 unfoldable pub unlessRefused : Option ℕ → List Event → Offering → Offering
 unlessRefused (some r) es w = record { events = es; refusal = some r }
@@ -31,7 +30,7 @@ unlessRefused none es w = w
 
 unfoldable pub offering : Query → ℕ → List Event → List ℕ → Offering
 offering q zero es bs = record { events = es; refusal = none }
-offering q (suc n) es bs = unlessRefused (lowest (refusals q (document es) (first bs))) es (offering q n (after q es (first bs)) (drop 8 bs))
+offering q (suc n) es bs = unlessRefused (first (refusals q (document es) (offer bs))) es (offering q n (after q es (offer bs)) (drop 8 bs))
 
 abbrev pub pieces : List ℕ → ℕ
 pieces bs = (length bs + 7) / 8

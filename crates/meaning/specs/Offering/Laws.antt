@@ -21,17 +21,17 @@ use lib.Dec.{T, eqb}
 use lib.ListN.{length, take, drop, length-append, length-drop}
 use lib.Seq.{drop-drop, take-append-le, drop-append-le, take-all}
 use borrow.Author.Tests.{ne-eqb}
-use Rattle.meaning.specs.Limits.{roomNeeded}
+use Rattle.meaning.specs.Limits.{depthLimit, heldLimit, outputNeeded, elementRecord, waitingRecord, elementsNeeded, nodesNeeded}
 use Rattle.meaning.specs.Logic.{and-l, and-r}
 use Rattle.meaning.specs.Query.{Query}
 use Rattle.meaning.specs.Document.{Doc, done, within, blank, countRow, count, depth, endsAt}
 use Rattle.meaning.specs.Document.Laws.{depth-opened, depth-closed, count-opened, count-closed}
 use Rattle.meaning.specs.Stream.{Event, opens, closes, fits, act, run, document, always, Stream}
 use Rattle.meaning.specs.Record.{isRecord, eventIf, eventOf}
-use Rattle.meaning.specs.Answer.{event, isBad, eventRefusals, refusals, lowestOr, lowest, yield, answerIf, answer, after}
+use Rattle.meaning.specs.Answer.{enough, event, isBad, tooSmall, eventRefusals, refusals, firstOr, first, yield, answerIf, answer, after}
 use Rattle.meaning.specs.Answer.Laws.{taken-added}
 use Rattle.meaning.specs.Answer.Bounds.{Bounded}
-use Rattle.meaning.specs.Offering.{Offering, first, unlessRefused, offering}
+use Rattle.meaning.specs.Offering.{Offering, offer, unlessRefused, offering}
 
 abbrev accepted : List Event → Offering
 accepted es = record { events = es; refusal = none }
@@ -70,7 +70,7 @@ module _ (q : Query) where
       ∙ then-by _ es es′ _ _ _
       (λ h.
       let at : 8 + 8 * m ≡ 8 * suc m = omega arith in
-      offering-then m n (after q es (first bs)) es′ (drop 8 bs) h
+      offering-then m n (after q es (offer bs)) es′ (drop 8 bs) h
       ∙ ap (offering q n es′) (drop-drop (8 * m) 8 bs ∙ ap (λ (k : ℕ). drop k bs) at))
       e
 
@@ -87,7 +87,7 @@ module _ (q : Query) where
   offering-stopped zero n es es′ r bs e = absurd (some-none r (sym (ap (λ (x : Offering). x .refusal) e)))
   offering-stopped (suc m) n es es′ r bs e =
       ap (λ (k : ℕ). offering q k es bs) (suc-add m n)
-      ∙ stops-by _ es es′ r _ _ (offering-stopped m n (after q es (first bs)) es′ r (drop 8 bs)) e
+      ∙ stops-by _ es es′ r _ _ (offering-stopped m n (after q es (offer bs)) es′ r (drop 8 bs)) e
 
   pub offering-more : (n : ℕ) (es : List Event) (bs more : List ℕ) → 8 * n ≤ length bs → offering q n es (bs ++ more) ≡ offering q n es bs
   unfolding offering
@@ -96,44 +96,44 @@ module _ (q : Query) where
       let head : take 8 (bs ++ more) ≡ take 8 bs = take-append-le 8 bs more (omega arith) in
       let tail : drop 8 (bs ++ more) ≡ drop 8 bs ++ more = drop-append-le 8 bs more (omega arith) in
       ap₂
-      (λ (x y : List ℕ). unlessRefused (lowest (refusals q (document es) (event x roomNeeded))) es (offering q n (after q es (event x roomNeeded)) y))
+      (λ (x y : List ℕ). unlessRefused (first (refusals q (document es) (event x enough))) es (offering q n (after q es (event x enough)) y))
       head tail
-      ∙ ap (unlessRefused (lowest (refusals q (document es) (first bs))) es)
-      (offering-more n (after q es (first bs)) (drop 8 bs) more (omega (arith, length-drop 8 bs)))
+      ∙ ap (unlessRefused (first (refusals q (document es) (offer bs))) es)
+      (offering-more n (after q es (offer bs)) (drop 8 bs) more (omega (arith, length-drop 8 bs)))
 
   -- one record
-  pub one-record : (es : List Event) (bs : List ℕ) → lowest (refusals q (document es) (first bs)) ≡ none → offering q 1 es bs ≡ accepted (after q es (first bs))
+  pub one-record : (es : List Event) (bs : List ℕ) → first (refusals q (document es) (offer bs)) ≡ none → offering q 1 es bs ≡ accepted (after q es (offer bs))
   unfolding offering unlessRefused
-  one-record es bs e = ap (λ (o : Option ℕ). unlessRefused o es (accepted (after q es (first bs)))) e
+  one-record es bs e = ap (λ (o : Option ℕ). unlessRefused o es (accepted (after q es (offer bs)))) e
 
-  pub refused-record : (es : List Event) (bs : List ℕ) (r : ℕ) → lowest (refusals q (document es) (first bs)) ≡ some r → offering q 1 es bs ≡ stopped es r
+  pub refused-record : (es : List Event) (bs : List ℕ) (r : ℕ) → first (refusals q (document es) (offer bs)) ≡ some r → offering q 1 es bs ≡ stopped es r
   unfolding offering unlessRefused
-  refused-record es bs r e = ap (λ (o : Option ℕ). unlessRefused o es (accepted (after q es (first bs)))) e
+  refused-record es bs r e = ap (λ (o : Option ℕ). unlessRefused o es (accepted (after q es (offer bs)))) e
 
-  -- "Leftover bytes under 8 are a bad record": 2 applies, and 1 does not
+  -- "Leftover bytes under 8 are a bad record": 2 applies, and 1 and 15 do not
   pub offering-short : (es : List Event) (bs : List ℕ) → length bs < 8 → offering q 1 es bs ≡ stopped es 2
   offering-short es bs h =
       refused-record es bs 2
-      (unfold refusals eventRefusals lowest lowestOr isBad in
-      ap (λ (x : Option Event). lowest (eventRefusals q (document es) x roomNeeded)) (ap eventOf (take-all 8 bs (omega arith)) ∙ short-bad bs h))
+      (unfold refusals eventRefusals tooSmall first firstOr isBad outputNeeded elementsNeeded nodesNeeded elementRecord waitingRecord depthLimit heldLimit in
+      ap (λ (x : Option Event). first (eventRefusals q (document es) x enough)) (ap eventOf (take-all 8 bs (omega arith)) ∙ short-bad bs h))
 
   -- each record that is accepted is one event more
-  record-added : (es : List Event) (bs : List ℕ) → lowest (refusals q (document es) (first bs)) ≡ none → length (after q es (first bs)) ≡ length es + 1
+  record-added : (es : List Event) (bs : List ℕ) → first (refusals q (document es) (offer bs)) ≡ none → length (after q es (offer bs)) ≡ length es + 1
   unfolding answer answerIf yield
   record-added es bs e =
-      let t = taken-added q es (take 8 bs) roomNeeded _ (ap (λ (o : Option ℕ). answerIf o (yield q (document es) (first bs))) e) in
+      let t = taken-added q es (take 8 bs) enough _ (ap (λ (o : Option ℕ). answerIf o (yield q (document es) (offer bs))) e) in
       ap length (t .2) ∙ length-append es (t .0 ∷ [])
 
   pub length-offered : (n : ℕ) (es es′ : List Event) (bs : List ℕ) → offering q n es bs ≡ accepted es′ → length es′ ≡ length es + n
   unfolding offering unlessRefused
   length-offered zero es es′ bs e = let s : es ≡ es′ = ap (λ (x : Offering). x .events) e in omega (arith, ap length s)
   length-offered (suc n) es es′ bs e =
-      by (lowest (refusals q (document es) (first bs))) refl (length-offered n (after q es (first bs)) es′ (drop 8 bs)) e
+      by (first (refusals q (document es) (offer bs))) refl (length-offered n (after q es (offer bs)) es′ (drop 8 bs)) e
     where
       by :
-          (o : Option ℕ) → lowest (refusals q (document es) (first bs)) ≡ o →
-          (offering q n (after q es (first bs)) (drop 8 bs) ≡ accepted es′ → length es′ ≡ length (after q es (first bs)) + n) →
-          unlessRefused o es (offering q n (after q es (first bs)) (drop 8 bs)) ≡ accepted es′ → length es′ ≡ length es + suc n
+          (o : Option ℕ) → first (refusals q (document es) (offer bs)) ≡ o →
+          (offering q n (after q es (offer bs)) (drop 8 bs) ≡ accepted es′ → length es′ ≡ length (after q es (offer bs)) + n) →
+          unlessRefused o es (offering q n (after q es (offer bs)) (drop 8 bs)) ≡ accepted es′ → length es′ ≡ length es + suc n
       by none l f e = omega (arith, f e, record-added es bs l)
       by (some r) l f e = absurd (some-none r (ap (λ (x : Offering). x .refusal) e))
 

@@ -1,0 +1,64 @@
+-- The refusal numbers, each in this one place, and the order in which they are given.
+--
+--   shortOutput, badRecord, afterEnd, wrongClose, tooDeep, tooManyNodes, tooManyHeld, shortRoom      an event's
+--   unfinished                finish's
+--   badLength, badStep        the query's (crate query)
+--   place r                   where refusal r comes among the refusals: of those that apply, the one with the lowest place is given
+--
+-- Assumes nothing. NOT here: when each applies (Answer), the limits (Limits), the order in plain words (Refusals.Laws).
+pub mod Laws
+use Prim.Native.Nat.{ℕ, _*_}
+use mathlib.Core.Bool.{Bool, true, false}
+use lib.Dec.{eqb}
+
+-- "output buffer under 4,100 bytes"
+abbrev pub shortOutput : ℕ
+shortOutput = 1
+
+-- "not 8 bytes, or a bad record"
+abbrev pub badRecord : ℕ
+badRecord = 2
+
+-- "the document element has been closed"
+abbrev pub afterEnd : ℕ
+afterEnd = 3
+
+-- "a close with nothing open, or with another name than the innermost open element"
+abbrev pub wrongClose : ℕ
+wrongClose = 4
+
+-- "an open at depth 256"
+abbrev pub tooDeep : ℕ
+tooDeep = 5
+
+-- "an open when 16,777,215 nodes have been opened"
+abbrev pub tooManyNodes : ℕ
+tooManyNodes = 6
+
+-- "an open after which more than 1,024 nodes would be held"
+abbrev pub tooManyHeld : ℕ
+tooManyHeld = 7
+
+-- "no document element yet, or it is still open"
+abbrev pub unfinished : ℕ
+unfinished = 8
+
+-- "query of 0 bytes, of a length not a multiple of 8, or over 256 bytes"
+abbrev pub badLength : ℕ
+badLength = 9
+
+-- "a step breaks a rule; comes with the first such step's number"
+abbrev pub badStep : ℕ
+badStep = 10
+
+-- "lent room under 16,384 bytes for the open elements or under 32,768 bytes for the waiting nodes"
+abbrev pub shortRoom : ℕ
+shortRoom = 15
+
+-- "The lowest number that applies is given", but that 15 "comes directly after 1 and before all others": between 1, at 2, and 2, at 4
+unfoldable pub placeIf : Bool → ℕ → ℕ
+placeIf true r = 3
+placeIf false r = 2 * r
+
+unfoldable pub place : ℕ → ℕ
+place r = placeIf (eqb r shortRoom) r
