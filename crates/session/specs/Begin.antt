@@ -1,43 +1,55 @@
 -- How a session begins.
 --
---   fresh plan       the session for a plan, at the start of its stream: every slot 0, and the first main-path step's turn in the document
---   Begun            what begin answers, in document 01's numbers, and the session beside it
---   sessionFor a q   the session beside the answer a to the query q; the blank one beside every refusal
---   begun q          the answer to the bytes q and the session
---   BeginGives q r   THE PROMISE of `begin`: r's answer, in document 01's numbers, and its session are those
+--   fresh plan        the session for a plan, at the start of its stream
+--   shortRoom E N     the lent room is too small
+--   said a            the answer that a case of `Start` stands for, in document 01's numbers: 15 where the room is too small, else the query's
+--   Begun             what begin answers, in document 01's numbers, and the session beside it
+--   answerOf q E N    the answer to the bytes q with the room E and N lent
+--   sessionFor a q    the session beside the answer a to the query q; the blank one beside every refusal
+--   begun q E N       the answer and the session
+--   BeginGives q E N r     THE PROMISE of `begin`: r's answer, in document 01's numbers, and its session are those
 --
 -- Assumes nothing. NOT here: the answer to a query (crate query, Answer), the plan (crate plan, Planned).
 pub mod Laws
 use Prim.Native.Nat.{ℕ}
 use mathlib.Core.Path.{_≡_}
-use mathlib.Core.Bool.{false}
+use mathlib.Core.Bool.{Bool, true, false}
 use mathlib.Core.List.{List, []}
-use lib.ListN.{replicate, set}
+use lib.Dec.{ltb}
+use lib.ListN.{length}
+use Rattle.choice.specs.Pick.{pick}
 use Rattle.plan.specs.declared.Plan.{Plan}
 use Rattle.plan.specs.Planned.{planOf}
-use Rattle.query.specs.Answer.{Answer, admitted, refused, refusedAt, said, answerTo}
+use Rattle.plan_bytes.specs.Kept.{packed}
+use Rattle.words.specs.Words.{bytesOf}
+use Rattle.query.specs.Answer.{Answer, admitted, refused, refusedAt, answerTo}
+use Rattle.element.specs.Element.{elementsRoom}
+use Rattle.node.specs.Node.{nodesRoom}
 use Rattle.session.specs.declared.Begun as given
 use Rattle.session.specs.declared.Session.{Session}
+use Rattle.session.specs.declared.Start as start
+use Rattle.session.specs.declared.Start.the-variants as started
 
 unfoldable pub fresh : Plan → Session
-fresh plan =
-    record {
-      plan = plan;
-      name = replicate 64 0;
-      pass = replicate 64 0;
-      below = replicate 64 0;
-      met = replicate 64 0;
-      sure = set (replicate 65 0) 0 (plan .first);
-      poss = set (replicate 65 0) 0 (plan .first);
-      node = replicate 128 0;
-      need = replicate 128 0;
-      level = replicate 128 0;
-      counts = record { depth = 0; count = 0; opened = 0; handed = 0; ended = false };
-    }
+fresh plan = record { kept = bytesOf (packed plan); depth = 0; held = 0; opened = 0; handed = 0; ended = false }
+
+-- "a buffer is too small exactly when it is under that size times the limit it serves"
+unfoldable pub shortRoom : List ℕ → List ℕ → Bool
+shortRoom E N = pick (ltb (length E) elementsRoom) true (ltb (length N) nodesRoom)
+
+unfoldable pub said : start.Start → Answer
+said started.Begun = admitted
+said started.ShortRoom = refused 15
+said started.BadLength = refused 9
+said (started.BadStep k) = refusedAt 10 k
 
 pub record Begun : Type 0 where
   pub answer : Answer
   pub session : Session
+
+-- "15 comes before 9 and 10"
+unfoldable pub answerOf : List ℕ → List ℕ → List ℕ → Answer
+answerOf q E N = pick (shortRoom E N) (refused 15) (answerTo q)
 
 -- "beside a refused query's number stands one fixed blank session": that of no steps
 unfoldable pub sessionFor : Answer → List ℕ → Session
@@ -45,8 +57,8 @@ sessionFor admitted q = fresh (planOf q)
 sessionFor (refused n) q = fresh (planOf [])
 sessionFor (refusedAt n k) q = fresh (planOf [])
 
-unfoldable pub begun : List ℕ → Begun
-begun q = record { answer = answerTo q; session = sessionFor (answerTo q) q }
+unfoldable pub begun : List ℕ → List ℕ → List ℕ → Begun
+begun q E N = record { answer = answerOf q E N; session = sessionFor (answerOf q E N) q }
 
-abbrev pub BeginGives : List ℕ → given.Begun → Type 0
-BeginGives q r = record { answer = said (r .answer); session = r .session } ≡ begun q
+abbrev pub BeginGives : List ℕ → List ℕ → List ℕ → given.Begun → Type 0
+BeginGives q E N r = record { answer = said (r .answer); session = r .session } ≡ begun q E N

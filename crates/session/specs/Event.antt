@@ -1,119 +1,122 @@
--- What event and finish answer, for every session value, reached or not.
+-- What event and finish answer, for every session value and all lent room, reached or not, scribbled on or not.
 --
---   Done                     an event's answer, the next session and the buffer
---   refused n s out          a refusal: session and buffer as they were
---   framesIn s, queueIn s    the session's open elements and its waiting nodes
---   settled s p              the answer and the session, the open or the close having come to p
---   onOpen s x out, onClose s x out, onEvent s e out        an open of x, a close of x, any event
---   event s bytes out        an event, by its bytes
---   toldAs a s out, toldOf d            the same with the answer in document 01's number and values (Told)
---   EventGives s bytes out r out′       THE PROMISE of `event`: its result r and the buffer out′ on return stand for those
+--   Done                     an event's answer, the next session, and all that was lent, byte for byte
+--   refused n s E N out      a refusal: all as it was
+--   numbersOf s, withNumbers s n       the session's numbers; the same session with the numbers n
+--   settled s E N out c      what a step that came to c leaves in the room that is needed
+--   within s bytes E N out   an event on the room that is needed
+--   event s bytes E N out    an event, by its bytes, on any room
+--   toldAs, toldOf           the same with the answer in document 01's number and values (Told)
+--   EventGives s bytes E N out r E′ N′ out′      THE PROMISE of `event`: its result r, and all that was lent on return, are those
 --   finish s                 the nodes opened and handed out, or refusal 8
 --   FinishGives s r          THE PROMISE of `finish`: its result r stands for that
 --
--- Assumes nothing. NOT here: what an open and a close do to the arrays (crate act), which bytes are which event (crate meaning, Record).
+-- Assumes nothing. NOT here: what a step does (crate step), which bytes are which event (crate meaning, Record).
 pub mod Laws
 use Prim.Native.Nat.{ℕ}
 use mathlib.Core.Path.{_≡_}
-use mathlib.Core.List.{List}
+use mathlib.Core.Bool.{not}
+use mathlib.Core.List.{List, _++_}
+use mir.Val.{boolByte}
 use lib.Dec.{eqb, ltb}
-use lib.ListN.{length}
+use lib.ListN.{length, take, drop}
 use Rattle.choice.specs.Pick.{pick}
 use Rattle.meaning.specs.Answer as meaning
-use Rattle.meaning.specs.Record.{eventOf}
-use Rattle.records.specs.declared.Event as event-read
-use Rattle.records.specs.declared.Event.the-variants.{Open, Close, Bad}
-use Rattle.records.specs.Read.{shown}
-use Rattle.plan.specs.Planned.{sizeOf}
-use Rattle.stack.specs.Frames.{Frames}
-use Rattle.queue.specs.Loops.{Queue}
-use Rattle.act.specs.declared.Counts.{Counts}
-use Rattle.act.specs.Refuse.{refuseOpen, refuseClose}
-use Rattle.act.specs.Act.{Parts, openedOn, closedOn}
+use Rattle.element.specs.Element.{elementsRoom}
+use Rattle.node.specs.Node.{nodesRoom}
+use Rattle.numbers.specs.Numbers as numbers
+use Rattle.numbers.specs.Numbers.{Numbers}
+use Rattle.plan_bytes.specs.Kept.{keptIn}
+use Rattle.step.specs.Step.{outputNeeded}
+use Rattle.feed.specs.Fed.{Came}
+use Rattle.feed.specs.Steps.{Seat, seat, stepAt}
 use Rattle.session.specs.declared.Session.{Session}
 use Rattle.session.specs.declared.Answer.{Answer}
 use Rattle.session.specs.declared.Answer.the-variants.{Refused, Taken}
 use Rattle.session.specs.declared.Step.{Step}
 use Rattle.session.specs.declared.Finish as finished
 use Rattle.session.specs.declared.Finish.the-variants as finishing
+use Rattle.session.specs.Begin.{shortRoom}
 use Rattle.session.specs.Told.{told, ended}
 
 pub record Done : Type 0 where
   pub answer : Answer
   pub session : Session
+  pub elements : List ℕ
+  pub nodes : List ℕ
   pub out : List ℕ
+
+abbrev pub refused : ℕ → Session → List ℕ → List ℕ → List ℕ → Done
+refused n s E N out = record { answer = Refused n; session = s; elements = E; nodes = N; out = out }
+
+abbrev pub numbersOf : Session → Numbers
+numbersOf s = numbers.numbersOf (s .depth) (s .held) (s .opened) (s .handed) (boolByte (s .ended))
+
+abbrev pub withNumbers : Session → Numbers → Session
+withNumbers s n =
+    record {
+      kept = s .kept;
+      depth = n .depth;
+      held = n .held;
+      opened = n .opened;
+      handed = n .handed;
+      ended = not (eqb (n .ended) 0);
+    }
+
+-- "A refused call leaves the lent room as it was, too"
+unfoldable pub settled : Session → List ℕ → List ℕ → List ℕ → Came Seat → Done
+settled s E N out c =
+    pick (eqb (c .refusal) 0)
+    (record {
+      answer = Taken (c .given);
+      session = withNumbers s (c .seat .numbers);
+      elements = c .seat .elements;
+      nodes = c .seat .nodes;
+      out = c .out;
+    })
+    (refused (c .refusal) s E N out)
+
+unfoldable pub within : Session → List ℕ → List ℕ → List ℕ → List ℕ → Done
+within s bytes E N out = settled s E N out (stepAt (keptIn (s .kept)) (seat (numbersOf s) E N) bytes out)
+
+-- the bytes past the needed ones are never touched
+abbrev pub beside : List ℕ → List ℕ → Done → Done
+beside E N d =
+    record {
+      answer = d .answer;
+      session = d .session;
+      elements = d .elements ++ drop elementsRoom E;
+      nodes = d .nodes ++ drop nodesRoom N;
+      out = d .out;
+    }
+
+-- "1: output buffer under 4,100 bytes", "15 comes directly after 1 and before all others"
+unfoldable pub event : Session → List ℕ → List ℕ → List ℕ → List ℕ → Done
+event s bytes E N out =
+    pick (ltb (length out) outputNeeded) (refused 1 s E N out)
+    (pick (shortRoom E N) (refused 15 s E N out)
+    (beside E N (within s bytes (take elementsRoom E) (take nodesRoom N) out)))
 
 -- the same in document 01's numbers and values
 pub record ToldDone : Type 0 where
   pub answer : meaning.Answer
   pub session : Session
+  pub elements : List ℕ
+  pub nodes : List ℕ
   pub out : List ℕ
 
-abbrev pub toldAs : Answer → Session → List ℕ → ToldDone
-toldAs a s out = record { answer = told a out; session = s; out = out }
+abbrev pub toldAs : Answer → Session → List ℕ → List ℕ → List ℕ → ToldDone
+toldAs a s E N out = record { answer = told a out; session = s; elements = E; nodes = N; out = out }
 
 abbrev pub toldOf : Done → ToldDone
-toldOf d = toldAs (d .answer) (d .session) (d .out)
+toldOf d = toldAs (d .answer) (d .session) (d .elements) (d .nodes) (d .out)
 
-abbrev pub refused : ℕ → Session → List ℕ → Done
-refused n s out = record { answer = Refused n; session = s; out = out }
-
-abbrev pub framesIn : Session → Frames
-framesIn s = record { name = s .name; pass = s .pass; below = s .below; met = s .met; sure = s .sure; poss = s .poss }
-
-abbrev pub queueIn : Session → Queue
-queueIn s = record { node = s .node; need = s .need; level = s .level }
-
--- the session put together again
-abbrev pub whole : Session → Frames → Queue → Counts → Session
-whole s f q c =
-    record {
-      plan = s .plan;
-      name = f .name;
-      pass = f .pass;
-      below = f .below;
-      met = f .met;
-      sure = f .sure;
-      poss = f .poss;
-      node = q .node;
-      need = q .need;
-      level = q .level;
-      counts = c;
-    }
-
-unfoldable pub settled : Session → Parts → Done
-settled s p =
-    pick (p .acted .full) (refused 7 s (p .out))
-    (record { answer = Taken (p .acted .given); session = whole s (p .frames) (p .queue) (p .acted .counts); out = p .out })
-
-unfoldable pub onOpen : Session → ℕ → List ℕ → Done
-onOpen s x out =
-    pick (eqb (refuseOpen (s .counts)) 0)
-    (settled s
-    (openedOn (s .plan .names) (s .plan .hung) (sizeOf (s .plan .size)) (s .plan .deep) (s .plan .plain) x (s .counts) (framesIn s) (queueIn s) out))
-    (refused (refuseOpen (s .counts)) s out)
-
-unfoldable pub onClose : Session → ℕ → List ℕ → Done
-onClose s x out =
-    pick (eqb (refuseClose (s .counts) (s .name) x) 0)
-    (settled s (closedOn (s .plan .deep) (s .plan .main) (s .counts) (framesIn s) (queueIn s) out))
-    (refused (refuseClose (s .counts) (s .name) x) s out)
-
-unfoldable pub onEvent : Session → event-read.Event → List ℕ → Done
-onEvent s (Open x) out = onOpen s x out
-onEvent s (Close x) out = onClose s x out
-onEvent s Bad out = refused 2 s out
-
--- "1: output buffer under 516 bytes", "2: not 8 bytes, or a bad record"
-unfoldable pub event : Session → List ℕ → List ℕ → Done
-event s bytes out = pick (ltb (length out) 516) (refused 1 s out) (onEvent s (shown (eventOf bytes)) out)
-
-abbrev pub EventGives : Session → List ℕ → List ℕ → Step → List ℕ → Type 0
-EventGives s bytes out r out′ = toldAs (r .answer) (r .session) out′ ≡ toldOf (event s bytes out)
+abbrev pub EventGives : Session → List ℕ → List ℕ → List ℕ → List ℕ → Step → List ℕ → List ℕ → List ℕ → Type 0
+EventGives s bytes E N out r E′ N′ out′ = toldAs (r .answer) (r .session) E′ N′ out′ ≡ toldOf (event s bytes E N out)
 
 -- "8: no document element yet, or it is still open"
 unfoldable pub finish : Session → finished.Finish
-finish s = pick (s .counts .ended) (finishing.Ended (s .counts .opened) (s .counts .handed)) (finishing.Refused 8)
+finish s = pick (s .ended) (finishing.Ended (s .opened) (s .handed)) (finishing.Refused 8)
 
 abbrev pub FinishGives : Session → finished.Finish → Type 0
 FinishGives s r = ended r ≡ ended (finish s)

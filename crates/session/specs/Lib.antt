@@ -1,3 +1,4 @@
+pub mod Told
 pub mod Begin
 pub mod Event
-pub mod Told
+pub mod Run

@@ -1,31 +1,29 @@
-// A session: one event at a time in, the selected nodes out as soon as they are certain.
+// A session: one event at a time in, the selected nodes out as soon as they are certain. The room for the open elements and the waiting nodes is lent with
+// each event; the session, by value, keeps only its numbers and what it keeps of its query.
 ghost use mathlib.Core.Path.{_≡_};
-ghost use Prim.Native.Nat.{_≤_};
+ghost use Prim.Native.Nat.{_*_, _≤_};
 ghost use lib.ListN.{length};
+ghost use Rattle.element.specs.Element.{elementsRoom};
+ghost use Rattle.node.specs.Node.{nodesRoom};
+ghost use Rattle.numbers.specs.Numbers.{numbersRoom, numbersIn};
+ghost use Rattle.step.specs.Step.{outputNeeded};
 ghost use Rattle.session.specs.Begin.{fresh, BeginGives};
-ghost use Rattle.session.specs.Event.{onOpen, onClose, EventGives, FinishGives};
-use act::Counts;
+ghost use Rattle.session.specs.Event.{numbersOf, withNumbers, within, EventGives, FinishGives};
+ghost use Rattle.session.specs.Run.{ran, runWithin, RunGives};
 use plan::Plan;
 use query::QueryAnswer;
-use records::Event;
-
-// "The buffer must have at least 516 bytes"
-pub const ROOM: usize = 516;
 
 pub struct Session {
-    pub plan: Plan,
-    // The open elements, outermost first (crate stack).
-    pub name: [u16; 64],
-    pub pass: [u32; 64],
-    pub below: [u32; 64],
-    pub met: [u32; 64],
-    pub sure: [u32; 65],
-    pub poss: [u32; 65],
-    // The waiting nodes, in document order (crate queue).
-    pub node: [u32; 128],
-    pub need: [u32; 128],
-    pub level: [u8; 128],
-    pub counts: Counts,
+    // What is kept of the query (crate plan_bytes).
+    pub kept: [u8; 288],
+    // How many elements are open, and how many nodes wait.
+    pub depth: u32,
+    pub held: u32,
+    // How many nodes were opened, and how many handed out.
+    pub opened: u32,
+    pub handed: u32,
+    // "the document element has been closed"
+    pub ended: bool,
 }
 
 // "An event's answer is either a refusal number or a count of nodes handed out"
@@ -45,219 +43,234 @@ pub enum Finish {
     Ended(u32, u32),
 }
 
-// The answer to a query, and a session for it. "beside a refused query's number stands one fixed blank session"
+// The answer to begin: the query's, or that the lent room is too small.
+pub enum Start {
+    Begun,
+    ShortRoom,
+    BadLength,
+    BadStep(u8),
+}
+
+// "beside a refused query's number stands one fixed blank session"
 pub struct Begun {
-    pub answer: QueryAnswer,
+    pub answer: Start,
     pub session: Session,
 }
 
-// A session for a query, at the start of its stream.
-pub fn begin(query: &[u8]) -> Begun
-    ensures { λ r. ⌜ BeginGives (now (query .entry)) r ⌝ }
-{
-    let answer = query::check(query);
-    match answer {
-        QueryAnswer::Admitted => {
-            let session = fresh(plan::plan_of(query));
-            Begun { answer, session }
-        }
-        QueryAnswer::BadLength => {
-            let session = fresh(plan::plan_of(&query[..0]));
-            Begun { answer, session }
-        }
-        QueryAnswer::BadStep(_) => {
-            let session = fresh(plan::plan_of(&query[..0]));
-            Begun { answer, session }
-        }
-    }
+// What a block of events comes to.
+pub struct Ran {
+    pub session: Session,
+    // How many events were taken.
+    pub taken: usize,
+    // How many list records were written, from the start of the buffer.
+    pub listed: usize,
+    // The refusal's number, or 0.
+    pub refusal: u8,
 }
 
 // A session at the start of its stream.
 fn fresh(plan: Plan) -> Session
     ensures { λ r. ⌜ r ≡ fresh plan ⌝ }
 {
-    let first = plan.first;
-    let mut sure = [0u32; 65];
-    let mut poss = [0u32; 65];
-    sure[0] = first;
-    poss[0] = first;
-    let counts = Counts {
+    let kept = plan_bytes::pack(plan);
+    Session {
+        kept: kept,
         depth: 0,
-        count: 0,
+        held: 0,
         opened: 0,
         handed: 0,
         ended: false,
-    };
-    Session {
-        plan: plan,
-        name: [0u16; 64],
-        pass: [0u32; 64],
-        below: [0u32; 64],
-        met: [0u32; 64],
-        sure: sure,
-        poss: poss,
-        node: [0u32; 128],
-        need: [0u32; 128],
-        level: [0u8; 128],
-        counts: counts,
+    }
+}
+
+// A session for a query. Nothing is asked of the content of the lent room, and none of it is read or written.
+pub fn begin(query: &[u8], elements: &[u8], nodes: &[u8]) -> Begun
+    ensures { λ r. ⌜ BeginGives (now (query .entry)) (now (elements .entry)) (now (nodes .entry)) r ⌝ }
+{
+    let blank = fresh(plan::plan_of(&query[..0]));
+    if elements.len() < limits::ELEMENTS_ROOM {
+        return Begun {
+            answer: Start::ShortRoom,
+            session: blank,
+        };
+    }
+    if nodes.len() < limits::NODES_ROOM {
+        return Begun {
+            answer: Start::ShortRoom,
+            session: blank,
+        };
+    }
+    let answer = query::check(query);
+    match answer {
+        QueryAnswer::Admitted => {
+            let session = fresh(plan::plan_of(query));
+            Begun {
+                answer: Start::Begun,
+                session: session,
+            }
+        }
+        QueryAnswer::BadLength => Begun {
+            answer: Start::BadLength,
+            session: blank,
+        },
+        QueryAnswer::BadStep(k) => Begun {
+            answer: Start::BadStep(k),
+            session: blank,
+        },
     }
 }
 
 impl Session {
-    fn on_open(self, x: u16, out: &mut [u8]) -> Step
-        requires { ⌜ 516 ≤ length (now out) ⌝ }
-        ensures { λ r. ⌜ record { answer = r .answer; session = r .session; out = now (out .exit) } ≡ onOpen self x (now (out .entry)) ⌝ }
+    // The session's numbers in bytes.
+    fn lay(self, numbers: &mut [u8])
+        requires { ⌜ length (now numbers) ≡ numbersRoom ⌝ }
+        ensures { λ r. ⌜ numbersIn (now (numbers .exit)) ≡ numbersOf self ⌝ }
     {
-        let c = self.counts;
-        let refusal = act::refuse_open(c);
-        if refusal != 0 {
-            return Step {
-                answer: Answer::Refused(refusal),
-                session: self,
-            };
-        }
-        let plan = self.plan;
-        let names = plan.names;
-        let hung = plan.hung;
-        let size = plan::size_of(plan.size);
-        let mut name = self.name;
-        let mut pass = self.pass;
-        let mut below = self.below;
-        let mut met = self.met;
-        let mut sure = self.sure;
-        let mut poss = self.poss;
-        let mut node = self.node;
-        let mut need = self.need;
-        let mut level = self.level;
-        let a = act::act_open(
-            &names,
-            &hung,
-            size,
-            plan.deep,
-            plan.plain,
-            x,
-            c,
-            &mut name,
-            &mut pass,
-            &mut below,
-            &mut met,
-            &mut sure,
-            &mut poss,
-            &mut node,
-            &mut need,
-            &mut level,
-            out,
+        numbers::write(
+            numbers,
+            self.depth,
+            self.held,
+            self.opened,
+            self.handed,
+            self.ended as u32,
         );
-        if a.full {
-            return Step {
-                answer: Answer::Refused(7),
-                session: self,
-            };
-        }
-        let counts = a.counts;
-        Step {
-            answer: Answer::Taken(a.given),
-            session: Session {
-                plan,
-                name,
-                pass,
-                below,
-                met,
-                sure,
-                poss,
-                node,
-                need,
-                level,
-                counts,
-            },
+    }
+
+    // The same session with the numbers in bytes.
+    fn with(self, numbers: &[u8]) -> Session
+        requires { ⌜ length (now numbers) ≡ numbersRoom ⌝ }
+        ensures { λ r. ⌜ r ≡ withNumbers self (numbersIn (now (numbers .entry))) ⌝ }
+    {
+        let kept = self.kept;
+        Session {
+            kept: kept,
+            depth: numbers::get(numbers, numbers::DEPTH),
+            held: numbers::get(numbers, numbers::HELD),
+            opened: numbers::get(numbers, numbers::OPENED),
+            handed: numbers::get(numbers, numbers::HANDED),
+            ended: numbers::get(numbers, numbers::ENDED) != 0,
         }
     }
 
-    fn on_close(self, x: u16, out: &mut [u8]) -> Step
-        requires { ⌜ 516 ≤ length (now out) ⌝ }
-        ensures { λ r. ⌜ record { answer = r .answer; session = r .session; out = now (out .exit) } ≡ onClose self x (now (out .entry)) ⌝ }
+    // An event on the room that is needed, with enough of a buffer.
+    fn within(self, bytes: &[u8], elements: &mut [u8], nodes: &mut [u8], out: &mut [u8]) -> Step
+        requires { ⌜ (length (now elements) ≡ elementsRoom) × ((length (now nodes) ≡ nodesRoom) × (outputNeeded ≤ length (now out))) ⌝ }
+        ensures { λ r. ⌜ record { answer = r .answer; session = r .session; elements = now (elements .exit); nodes = now (nodes .exit); out = now (out .exit) }
+            ≡ within self (now (bytes .entry)) (now (elements .entry)) (now (nodes .entry)) (now (out .entry)) ⌝ }
     {
-        let c = self.counts;
-        let mut name = self.name;
-        let refusal = act::refuse_close(c, &name, x);
-        if refusal != 0 {
+        let kept = self.kept;
+        let mut numbers = [0u8; 20];
+        self.lay(&mut numbers);
+        let r = step::step(&kept, bytes, &mut numbers, elements, nodes, out);
+        if r.refusal != 0 {
             return Step {
-                answer: Answer::Refused(refusal),
+                answer: Answer::Refused(r.refusal),
                 session: self,
             };
         }
-        let plan = self.plan;
-        let mut pass = self.pass;
-        let mut below = self.below;
-        let mut met = self.met;
-        let mut sure = self.sure;
-        let mut poss = self.poss;
-        let mut node = self.node;
-        let mut need = self.need;
-        let mut level = self.level;
-        let a = act::act_close(
-            plan.deep,
-            plan.main,
-            c,
-            &mut name,
-            &mut pass,
-            &mut below,
-            &mut met,
-            &mut sure,
-            &mut poss,
-            &mut node,
-            &mut need,
-            &mut level,
-            out,
-        );
-        let counts = a.counts;
+        let session = self.with(&numbers);
         Step {
-            answer: Answer::Taken(a.given),
-            session: Session {
-                plan,
-                name,
-                pass,
-                below,
-                met,
-                sure,
-                poss,
-                node,
-                need,
-                level,
-                counts,
-            },
+            answer: Answer::Taken(r.given),
+            session: session,
         }
     }
 
-    // Takes one event.
-    pub fn event(self, bytes: &[u8], out: &mut [u8]) -> Step
-        ensures { λ r. ⌜ EventGives self (now (bytes .entry)) (now (out .entry)) r (now (out .exit)) ⌝ }
+    // Takes one event. Longer buffers are fine: their bytes past the needed ones are never touched.
+    pub fn event(self, bytes: &[u8], elements: &mut [u8], nodes: &mut [u8], out: &mut [u8]) -> Step
+        ensures { λ r. ⌜ EventGives self (now (bytes .entry)) (now (elements .entry)) (now (nodes .entry)) (now (out .entry)) r
+            (now (elements .exit)) (now (nodes .exit)) (now (out .exit)) ⌝ }
     {
-        if out.len() < ROOM {
+        if out.len() < limits::OUTPUT {
             return Step {
-                answer: Answer::Refused(1),
+                answer: Answer::Refused(limits::SHORT_OUTPUT),
                 session: self,
             };
         }
-        let event = records::read_event(bytes);
-        match event {
-            Event::Open(x) => self.on_open(x, out),
-            Event::Close(x) => self.on_close(x, out),
-            Event::Bad => Step {
-                answer: Answer::Refused(2),
+        if elements.len() < limits::ELEMENTS_ROOM {
+            return Step {
+                answer: Answer::Refused(limits::SHORT_ROOM),
                 session: self,
-            },
+            };
         }
+        if nodes.len() < limits::NODES_ROOM {
+            return Step {
+                answer: Answer::Refused(limits::SHORT_ROOM),
+                session: self,
+            };
+        }
+        self.within(
+            bytes,
+            &mut elements[..limits::ELEMENTS_ROOM],
+            &mut nodes[..limits::NODES_ROOM],
+            out,
+        )
+    }
+
+    // No event is looked at, or the first is refused for want of room.
+    fn stays(self, refusal: u8) -> Ran
+        ensures { λ r. ⌜ r ≡ record { session = self; taken = 0; listed = 0; refusal = refusal } ⌝ }
+    {
+        Ran {
+            session: self,
+            taken: 0,
+            listed: 0,
+            refusal: refusal,
+        }
+    }
+
+    // A block on the room that is needed.
+    fn run_within(self, events: &[u8], elements: &mut [u8], nodes: &mut [u8], out: &mut [u8]) -> Ran
+        requires { ⌜ (length (now elements) ≡ elementsRoom) × (length (now nodes) ≡ nodesRoom) ⌝ }
+        ensures { λ r. ⌜ ran r (now (elements .exit)) (now (nodes .exit)) (now (out .exit))
+            ≡ runWithin self (now (events .entry)) (now (elements .entry)) (now (nodes .entry)) (now (out .entry)) ⌝ }
+        ensures { λ r. ⌜ (8 * r .taken ≤ length (now (events .entry))) × (4 * r .listed ≤ length (now (out .exit))) ⌝ }
+    {
+        let kept = self.kept;
+        let mut numbers = [0u8; 20];
+        self.lay(&mut numbers);
+        let fed = feed::feed(&kept, events, &mut numbers, elements, nodes, out);
+        let session = self.with(&numbers);
+        Ran {
+            session: session,
+            taken: fed.taken,
+            listed: fed.listed,
+            refusal: fed.refusal,
+        }
+    }
+
+    // Takes a block of events, one after the other, until whole records end, one is refused, or less of the buffer is left than an event can need.
+    pub fn run(self, events: &[u8], elements: &mut [u8], nodes: &mut [u8], out: &mut [u8]) -> Ran
+        ensures { λ r. ⌜ RunGives self (now (events .entry)) (now (elements .entry)) (now (nodes .entry)) (now (out .entry)) r
+            (now (elements .exit)) (now (nodes .exit)) (now (out .exit)) ⌝ }
+        ensures { λ r. ⌜ (8 * r .taken ≤ length (now (events .entry))) × (4 * r .listed ≤ length (now (out .exit))) ⌝ }
+    {
+        if events.len() < 8 {
+            return self.stays(0);
+        }
+        if out.len() < limits::OUTPUT {
+            return self.stays(0);
+        }
+        if elements.len() < limits::ELEMENTS_ROOM {
+            return self.stays(limits::SHORT_ROOM);
+        }
+        if nodes.len() < limits::NODES_ROOM {
+            return self.stays(limits::SHORT_ROOM);
+        }
+        self.run_within(
+            events,
+            &mut elements[..limits::ELEMENTS_ROOM],
+            &mut nodes[..limits::NODES_ROOM],
+            out,
+        )
     }
 
     // "it changes nothing and may be asked again"
     pub fn finish(self) -> Finish
         ensures { λ r. ⌜ FinishGives self r ⌝ }
     {
-        let c = self.counts;
-        if c.ended {
-            return Finish::Ended(c.opened, c.handed);
+        if self.ended {
+            return Finish::Ended(self.opened, self.handed);
         }
-        Finish::Refused(8)
+        Finish::Refused(limits::UNFINISHED)
     }
 }

@@ -1,10 +1,10 @@
 // Offers each event of `events.rec` to a session by itself, also after a refusal, and writes a line for each: how it was answered, how many nodes
 // are held, and which were handed out.
 ghost use Rattle.io.specs.Counts.{Counts};
-use query::QueryAnswer;
 use session::Answer;
 use session::Finish;
 use session::Session;
+use session::Start;
 use session::Step;
 
 fn say(word: &[u8]) {
@@ -25,9 +25,8 @@ fn read_query(query: &mut [u8]) -> usize
 }
 
 fn say_held(session: Session) {
-    let counts = session.counts;
     say(b", held ");
-    say_number(counts.count as u64);
+    say_number(session.held as u64);
 }
 
 fn say_nodes(records: &[u8], count: u32) {
@@ -87,7 +86,14 @@ struct Offered {
 }
 
 // "Leftover bytes under 8 are a bad record": they are offered as they are.
-fn offer_next(fd: i32, number: u64, session: Session, out: &mut [u8]) -> Offered {
+fn offer_next(
+    fd: i32,
+    number: u64,
+    session: Session,
+    elements: &mut [u8],
+    nodes: &mut [u8],
+    out: &mut [u8],
+) -> Offered {
     let mut record = [0u8; 8];
     let n = io::read_full(fd, &mut record);
     if n == 0 {
@@ -96,7 +102,7 @@ fn offer_next(fd: i32, number: u64, session: Session, out: &mut [u8]) -> Offered
             going: false,
         };
     }
-    let step = session.event(&record[..n], out);
+    let step = session.event(&record[..n], elements, nodes, out);
     say_step(number, step, &*out);
     let next = step.session;
     Offered {
@@ -106,7 +112,13 @@ fn offer_next(fd: i32, number: u64, session: Session, out: &mut [u8]) -> Offered
 }
 
 // Nothing says that a file ends. So the loop counts the events up to a number that no file has.
-fn offer_all(fd: i32, session: Session, out: &mut [u8]) -> Session {
+fn offer_all(
+    fd: i32,
+    session: Session,
+    elements: &mut [u8],
+    nodes: &mut [u8],
+    out: &mut [u8],
+) -> Session {
     let mut offered = Offered {
         session,
         going: true,
@@ -114,20 +126,24 @@ fn offer_all(fd: i32, session: Session, out: &mut [u8]) -> Session {
     let mut number: u64 = 1;
     while offered.going && number < u64::MAX {
         let last = offered.session;
-        offered = offer_next(fd, number, last, out);
+        offered = offer_next(fd, number, last, elements, nodes, out);
         number += 1;
     }
     offered.session
 }
 
-fn say_query(answer: QueryAnswer) -> bool {
+fn say_query(answer: Start) -> bool {
     match answer {
-        QueryAnswer::Admitted => true,
-        QueryAnswer::BadLength => {
+        Start::Begun => true,
+        Start::ShortRoom => {
+            say(b"refused 15\n");
+            false
+        }
+        Start::BadLength => {
             say(b"refused 9\n");
             false
         }
-        QueryAnswer::BadStep(step) => {
+        Start::BadStep(step) => {
             say(b"refused 10 at ");
             say_number(step as u64);
             say(b"\n");
@@ -138,14 +154,16 @@ fn say_query(answer: QueryAnswer) -> bool {
 
 fn main() {
     let mut query = [0u8; 264];
-    let mut out = [0u8; 516];
+    let mut elements = [0u8; 16384];
+    let mut nodes = [0u8; 32768];
+    let mut out = [0u8; 4100];
     let n = read_query(&mut query);
-    let begun = session::begin(&query[..n]);
+    let begun = session::begin(&query[..n], &elements, &nodes);
     let answer = begun.answer;
     if say_query(answer) {
         let fd = os::open_read(b"events.rec");
         let session = begun.session;
-        let last = offer_all(fd, session, &mut out);
+        let last = offer_all(fd, session, &mut elements, &mut nodes, &mut out);
         libc::close(fd);
         say_finish(last.finish());
     }

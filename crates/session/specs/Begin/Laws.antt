@@ -1,41 +1,109 @@
 -- What the calls of begin give together, and that begin's promise allows one result.
 --
+--   elements-room, nodes-room     the needed room as numbers;  short-elements, short-nodes, room-enough: whether it is there
+--   begin-short                                   the lent room is too small
 --   begin-admitted, begin-long, begin-broken      for each case of the check's answer: the answer and the session beside it
 --   begin-one                                     two results that the promise of `begin` allows are equal
 --
 -- Assumes nothing.
-use Prim.Native.Nat.{ℕ}
-use mathlib.Core.Path.{_≡_, sym, ap, ap₂, _∙_}
+use Prim.Native.Nat.{ℕ, _≤_, _<_}
+use native.Mathlib.Omega.{arith}
+use mathlib.Core.Path.{_≡_, refl, sym, ap, ap₂, _∙_}
+use mathlib.Core.Bool.{true, false}
 use mathlib.Core.List.{List, []}
+use lib.ListN.{length}
+use borrow.Author.Tests.{lt-ltb, le-ltb}
+use Rattle.choice.specs.Pick.{pick-true, pick-false}
 use Rattle.plan.specs.declared.Plan.{Plan}
 use Rattle.plan.specs.Planned.{planOf}
 use Rattle.query.specs.declared.QueryAnswer.{QueryAnswer}
 use Rattle.query.specs.declared.QueryAnswer.the-variants.{Admitted, BadLength, BadStep}
-use Rattle.query.specs.Answer.{said, answerTo}
-use Rattle.query.specs.Answer.Laws.{said-one}
+use Rattle.query.specs.Answer.{answerTo}
+use Rattle.query.specs.Answer as query
+use Rattle.element.specs.Element.{elementsRoom}
+use Rattle.element.specs.Element.Laws as element
+use Rattle.node.specs.Node.{nodesRoom}
+use Rattle.node.specs.Node.Laws as node
+use Rattle.step.specs.Step.Laws.{depth-is, held-is}
 use Rattle.session.specs.declared.Begun as given
 use Rattle.session.specs.declared.Session.{Session}
-use Rattle.session.specs.Begin.{fresh, Begun, sessionFor, begun, BeginGives}
+use Rattle.session.specs.declared.Start as start
+use Rattle.session.specs.declared.Start.the-variants as started
+use Rattle.session.specs.Begin.{fresh, shortRoom, said, Begun, answerOf, sessionFor, begun, BeginGives}
 
-module _ (q : List ℕ) (a : QueryAnswer) (plan : Plan) (s : Session) (checked : said a ≡ answerTo q) (made : s ≡ fresh plan) where
-  beside : fresh plan ≡ sessionFor (said a) q → _≡_ {A = Begun} (record { answer = said a; session = s }) (begun q)
+pub elements-room : elementsRoom ≡ 16384
+elements-room = omega (arith, element.room-is, depth-is)
+
+pub nodes-room : nodesRoom ≡ 32768
+nodes-room = omega (arith, node.room-is, held-is)
+
+module _ (E N : List ℕ) where
+  pub short-elements : length E < elementsRoom → shortRoom E N ≡ true
+  unfolding shortRoom
+  short-elements h = pick-true _ _ _ (lt-ltb _ _ h)
+
+  pub short-nodes : elementsRoom ≤ length E → length N < nodesRoom → shortRoom E N ≡ true
+  unfolding shortRoom
+  short-nodes h k = pick-false _ _ _ (le-ltb _ _ h) ∙ lt-ltb _ _ k
+
+  pub room-enough : elementsRoom ≤ length E → nodesRoom ≤ length N → shortRoom E N ≡ false
+  unfolding shortRoom
+  room-enough h k = pick-false _ _ _ (le-ltb _ _ h) ∙ le-ltb _ _ k
+
+module _ (q E N : List ℕ) (a : start.Start) (s : Session) where
+  -- the answer, and the session beside it
+  beside : said a ≡ answerOf q E N → s ≡ sessionFor (said a) q → BeginGives q E N (record { answer = a; session = s })
   unfolding begun
-  beside e = ap (λ (t : Session). record { answer = said a; session = t }) (made ∙ e) ∙ ap (λ x. record { answer = x; session = sessionFor x q }) checked
+  beside ea es = ap (λ (t : Session). record { answer = said a; session = t }) es ∙ ap (λ x. record { answer = x; session = sessionFor x q }) ea
 
-  pub begin-admitted : a ≡ Admitted → plan ≡ planOf q → _≡_ {A = Begun} (record { answer = said a; session = s }) (begun q)
-  unfolding sessionFor said
-  begin-admitted ea ep = beside (ap fresh ep ∙ ap (λ x. sessionFor (said x) q) (sym ea))
+  pub begin-short :
+      (plan : Plan) → a ≡ started.ShortRoom → shortRoom E N ≡ true → plan ≡ planOf [] → s ≡ fresh plan →
+      BeginGives q E N (record { answer = a; session = s })
+  unfolding said answerOf sessionFor
+  begin-short plan ea h ep es =
+      beside (ap said ea ∙ sym (pick-true _ _ _ h)) (es ∙ ap fresh ep ∙ ap (λ x. sessionFor (said x) q) (sym ea))
 
-  pub begin-long : a ≡ BadLength → plan ≡ planOf [] → _≡_ {A = Begun} (record { answer = said a; session = s }) (begun q)
-  unfolding sessionFor said
-  begin-long ea ep = beside (ap fresh ep ∙ ap (λ x. sessionFor (said x) q) (sym ea))
+  module _ (enough : shortRoom E N ≡ false) (plan : Plan) (es : s ≡ fresh plan) (c : QueryAnswer) (checked : query.said c ≡ answerTo q) where
+    asked : query.said c ≡ answerOf q E N
+    unfolding answerOf
+    asked = checked ∙ sym (pick-false _ _ _ enough)
 
-  pub begin-broken : (k : ℕ) → a ≡ BadStep k → plan ≡ planOf [] → _≡_ {A = Begun} (record { answer = said a; session = s }) (begun q)
-  unfolding sessionFor said
-  begin-broken k ea ep = beside (ap fresh ep ∙ ap (λ x. sessionFor (said x) q) (sym ea))
+    pub begin-admitted : c ≡ Admitted → a ≡ started.Begun → plan ≡ planOf q → BeginGives q E N (record { answer = a; session = s })
+    unfolding said query.said sessionFor
+    begin-admitted ec ea ep =
+        beside (ap said ea ∙ ap query.said (sym ec) ∙ asked) (es ∙ ap fresh ep ∙ ap (λ x. sessionFor (said x) q) (sym ea))
 
-pub begin-one : (q : List ℕ) (x y : given.Begun) → BeginGives q x → BeginGives q y → x ≡ y
-begin-one q x y gx gy =
+    pub begin-long : c ≡ BadLength → a ≡ started.BadLength → plan ≡ planOf [] → BeginGives q E N (record { answer = a; session = s })
+    unfolding said query.said sessionFor
+    begin-long ec ea ep =
+        beside (ap said ea ∙ ap query.said (sym ec) ∙ asked) (es ∙ ap fresh ep ∙ ap (λ x. sessionFor (said x) q) (sym ea))
+
+    pub begin-broken : (k : ℕ) → c ≡ BadStep k → a ≡ started.BadStep k → plan ≡ planOf [] → BeginGives q E N (record { answer = a; session = s })
+    unfolding said query.said sessionFor
+    begin-broken k ec ea ep =
+        beside (ap said ea ∙ ap query.said (sym ec) ∙ asked) (es ∙ ap fresh ep ∙ ap (λ x. sessionFor (said x) q) (sym ea))
+
+said-one : (x y : start.Start) → said x ≡ said y → x ≡ y
+unfolding said
+said-one started.Begun started.Begun e = refl
+said-one started.Begun started.ShortRoom e = let z : _≡_ {A = ℕ} 0 1 = cc in absurd (omega arith)
+said-one started.Begun started.BadLength e = let z : _≡_ {A = ℕ} 0 1 = cc in absurd (omega arith)
+said-one started.Begun (started.BadStep k) e = let z : _≡_ {A = ℕ} 0 1 = cc in absurd (omega arith)
+said-one started.ShortRoom started.Begun e = let z : _≡_ {A = ℕ} 0 1 = cc in absurd (omega arith)
+said-one started.ShortRoom started.ShortRoom e = refl
+said-one started.ShortRoom started.BadLength e = let z : _≡_ {A = ℕ} 15 9 = cc in absurd (omega arith)
+said-one started.ShortRoom (started.BadStep k) e = let z : _≡_ {A = ℕ} 0 1 = cc in absurd (omega arith)
+said-one started.BadLength started.Begun e = let z : _≡_ {A = ℕ} 0 1 = cc in absurd (omega arith)
+said-one started.BadLength started.ShortRoom e = let z : _≡_ {A = ℕ} 9 15 = cc in absurd (omega arith)
+said-one started.BadLength started.BadLength e = refl
+said-one started.BadLength (started.BadStep k) e = let z : _≡_ {A = ℕ} 0 1 = cc in absurd (omega arith)
+said-one (started.BadStep k) started.Begun e = let z : _≡_ {A = ℕ} 0 1 = cc in absurd (omega arith)
+said-one (started.BadStep k) started.ShortRoom e = let z : _≡_ {A = ℕ} 0 1 = cc in absurd (omega arith)
+said-one (started.BadStep k) started.BadLength e = let z : _≡_ {A = ℕ} 0 1 = cc in absurd (omega arith)
+said-one (started.BadStep k) (started.BadStep l) e = ap started.BadStep (cc)
+
+pub begin-one : (q E N : List ℕ) (x y : given.Begun) → BeginGives q E N x → BeginGives q E N y → x ≡ y
+begin-one q E N x y gx gy =
     let e = gx ∙ sym gy in
-    ap₂ (λ (a : QueryAnswer) (s : Session). record { answer = a; session = s })
+    ap₂ (λ (a : start.Start) (s : Session). record { answer = a; session = s })
     (said-one (x .answer) (y .answer) (ap (λ (b : Begun). b .answer) e)) (ap (λ (b : Begun). b .session) e)

@@ -1,119 +1,139 @@
--- What the calls of an event give together, over what each call answered, and that the promises of event and finish allow one result.
+-- What the calls of an event give together, and that the promises of event and finish allow one result.
 --
---   open-refused, open-full, open-taken     an open that its counts refuse; refusal 7; one that is taken
---   close-refused, close-taken              a close that is refused; one that is taken
---   event-is, finish-is                     a result that the promise allows is the model's
---   event-short, event-read-as              what the model gives is allowed: refusal 1; an event that was read as e
---   event-one, finish-one                   two results that the promise allows are equal, and so are the buffers on return
+--   with-parts                         the numbers one by one
+--   within-refused, within-taken       an event that is refused, and one that is taken, on the room that is needed
+--   event-short, event-small, event-parts       refusal 1; refusal 15; any other answer, by the parts of the room that were lent on
+--   event-is, finish-is                a result that the promise allows is the model's
+--   event-one, finish-one              two results that the promise allows are equal, and so is all that was lent
 --
--- The session and what an act came to are given explicitly: they are too large to be found. Assumes nothing.
+-- The session and what a step came to are given explicitly: they are too large to be found. Assumes nothing.
 use Prim.Native.Nat.{ℕ, _≤_, _<_}
 use mathlib.Core.Path.{_≡_, refl, sym, ap, ap₂, _∙_}
-use mathlib.Core.Bool.{true, false}
-use mathlib.Core.List.{List}
-use lib.ListN.{length}
+use mathlib.Core.Bool.{true, false, not}
+use mathlib.Core.List.{List, _++_}
+use lib.Dec.{eqb}
+use lib.ListN.{length, take, drop}
 use borrow.Author.Tests.{eq-eqb, ne-eqb, lt-ltb, le-ltb}
 use Rattle.choice.specs.Pick.{pick-yes, pick-no}
 use Rattle.meaning.specs.Record.{eventOf}
-use Rattle.records.specs.declared.Event as read-as
 use Rattle.records.specs.Read.{shown}
-use Rattle.plan.specs.Planned.{sizeOf}
-use Rattle.act.specs.Refuse.{refuseOpen, refuseClose}
-use Rattle.act.specs.Act.{Parts, openedOn, closedOn}
+use Rattle.words.specs.Words.{Bytes}
+use Rattle.element.specs.Element.{elementsRoom, elementsIn}
+use Rattle.node.specs.Node.{nodesRoom, queueIn}
+use Rattle.numbers.specs.Numbers.{Numbers}
+use Rattle.plan_bytes.specs.Kept.{keptIn}
+use Rattle.step.specs.Step.{outputNeeded, after, step}
+use Rattle.feed.specs.Fed.{Came}
+use Rattle.feed.specs.Steps.{Seat, seat, came, stepAt}
+use Rattle.feed.specs.Steps.Laws.{step-came, refused-at}
 use Rattle.session.specs.declared.Session.{Session}
 use Rattle.session.specs.declared.Answer.{Answer}
 use Rattle.session.specs.declared.Answer.the-variants.{Refused, Taken}
 use Rattle.session.specs.declared.Step.{Step}
 use Rattle.session.specs.declared.Finish as finished
-use Rattle.session.specs.Event.{Done, ToldDone, toldAs, toldOf, refused, framesIn, queueIn, whole, settled, onOpen, onClose, onEvent, event, EventGives, finish, FinishGives}
+use Rattle.session.specs.Begin.{shortRoom}
+use Rattle.session.specs.Event.{Done, refused, numbersOf, withNumbers, settled, within, beside, event}
+use Rattle.session.specs.Event.{ToldDone, toldAs, toldOf, EventGives, finish, FinishGives}
 use Rattle.session.specs.Told.{told, told-one, ended-one}
 
-module _ (s : Session) (p : Parts) where
-  settled-full : p .acted .full ≡ true → refused 7 s (p .out) ≡ settled s p
-  unfolding settled
-  settled-full h = pick-yes _ _ _ _ h refl
+pub with-parts :
+    (s : Session) (n : Numbers) (depth held opened handed ended : ℕ) → depth ≡ n .depth → held ≡ n .held → opened ≡ n .opened → handed ≡ n .handed →
+    ended ≡ n .ended →
+    _≡_ {A = Session} (record { kept = s .kept; depth = depth; held = held; opened = opened; handed = handed; ended = not (eqb ended 0) }) (withNumbers s n)
+with-parts s n depth held opened handed ended e₁ e₂ e₃ e₄ e₅ =
+    λ i. record { kept = s .kept; depth = e₁ i; held = e₂ i; opened = e₃ i; handed = e₄ i; ended = not (eqb (e₅ i) 0) }
 
-  settled-taken :
-      p .acted .full ≡ false →
-      _≡_ {A = Done}
-      (record { answer = Taken (p .acted .given); session = whole s (p .frames) (p .queue) (p .acted .counts); out = p .out })
-      (settled s p)
-  unfolding settled
-  settled-taken h = pick-no _ _ _ _ h refl
+-- on the room that is needed; E′ and N′ are what it holds on return
+module _ (s : Session) (bytes E N out E′ N′ out′ : List ℕ) (refusal given : ℕ) (n n′ : Numbers) (longE : length E ≡ elementsRoom)
+    (longN : length N ≡ nodesRoom) (longE′ : length E′ ≡ elementsRoom) (longN′ : length N′ ≡ nodesRoom) (bE : Bytes E) (bN : Bytes N) (bE′ : Bytes E′)
+    (bN′ : Bytes N′) (laid-as : n ≡ numbersOf s)
+    (stepped : after refusal given n′ (elementsIn E′) (queueIn N′) out′
+    ≡ step (keptIn (s .kept)) (shown (eventOf bytes)) n (elementsIn E) (queueIn N) out) where
+  came-is : came refusal given (seat n′ E′ N′) out′ ≡ stepAt (keptIn (s .kept)) (seat (numbersOf s) E N) bytes out
+  came-is =
+      step-came (keptIn (s .kept)) n E N bytes out longE longN bE bN refusal given n′ E′ N′ out′ longE′ longN′ bE′ bN′ stepped
+      ∙ ap (λ m. stepAt (keptIn (s .kept)) (seat m E N) bytes out) laid-as
 
-module _ (s : Session) (out : List ℕ) (x : ℕ) where
-  pub open-refused : (r : ℕ) → r ≡ refuseOpen (s .counts) → (r ≡ 0 → ⊥) → refused r s out ≡ onOpen s x out
-  unfolding onOpen
-  open-refused r e f = pick-no _ _ _ _ (ne-eqb _ _ (λ z. f (e ∙ z))) (ap (λ n. refused n s out) e)
+  pub within-refused :
+      (refusal ≡ 0 → ⊥) →
+      _≡_ {A = Done} (record { answer = Refused refusal; session = s; elements = E′; nodes = N′; out = out′ }) (within s bytes E N out)
+  unfolding within settled
+  within-refused f =
+      let at : Seat = seat (numbersOf s) E N in
+      let r : refusal ≡ stepAt (keptIn (s .kept)) at bytes out .refusal = ap (λ (c : Came Seat). c .refusal) came-is in
+      let k = came-is ∙ refused-at (keptIn (s .kept)) at bytes out (λ z. f (r ∙ z)) in
+      same (ap (λ (c : Came Seat). c .seat .elements) k) (ap (λ (c : Came Seat). c .seat .nodes) k) (ap (λ (c : Came Seat). c .out) k)
+      ∙ pick-no _ _ _ _ (ne-eqb refusal 0 f) refl
+      ∙ ap (settled s E N out) came-is
+    where
+      same : {A A′ B B′ C C′ : List ℕ} → A ≡ A′ → B ≡ B′ → C ≡ C′ →
+          _≡_ {A = Done} (record { answer = Refused refusal; session = s; elements = A; nodes = B; out = C }) (refused refusal s A′ B′ C′)
+      same p q r = λ i. record { answer = Refused refusal; session = s; elements = p i; nodes = q i; out = r i }
 
-  module _ (r : ℕ) (e : r ≡ refuseOpen (s .counts)) (z : r ≡ 0) (size : ℕ) (es : size ≡ sizeOf (s .plan .size)) (p : Parts)
-      (ep : p ≡ openedOn (s .plan .names) (s .plan .hung) size (s .plan .deep) (s .plan .plain) x (s .counts) (framesIn s) (queueIn s) out) where
-    onward : (d : Done) → d ≡ settled s p → d ≡ onOpen s x out
-    unfolding onOpen
-    onward d h =
-        pick-yes _ _ _ _ (eq-eqb _ _ (sym e ∙ z))
-        (h
-        ∙ ap (settled s)
-        (ep
-        ∙ ap (λ n. openedOn (s .plan .names) (s .plan .hung) n (s .plan .deep) (s .plan .plain) x (s .counts) (framesIn s) (queueIn s) out) es))
+  pub within-taken :
+      (t : Session) → refusal ≡ 0 → t ≡ withNumbers s n′ →
+      _≡_ {A = Done} (record { answer = Taken given; session = t; elements = E′; nodes = N′; out = out′ }) (within s bytes E N out)
+  unfolding within settled
+  within-taken t z et =
+      ap (λ (u : Session). record { answer = Taken given; session = u; elements = E′; nodes = N′; out = out′ }) et
+      ∙ pick-yes _ _ _ _ (eq-eqb refusal 0 z) refl
+      ∙ ap (settled s E N out) came-is
 
-    pub open-full : p .acted .full ≡ true → refused 7 s (p .out) ≡ onOpen s x out
-    open-full h = onward _ (settled-full s p h)
+-- on any room
 
-    pub open-taken :
-        p .acted .full ≡ false →
-        _≡_ {A = Done}
-        (record { answer = Taken (p .acted .given); session = whole s (p .frames) (p .queue) (p .acted .counts); out = p .out })
-        (onOpen s x out)
-    open-taken h = onward _ (settled-taken s p h)
+module _ (s : Session) (bytes E N out : List ℕ) where
+  pub event-short : length out < outputNeeded → toldAs (Refused 1) s E N out ≡ toldOf (event s bytes E N out)
+  unfolding event
+  event-short h = ap (λ (d : Done). toldOf d) (pick-yes _ (refused 1 s E N out) _ _ (lt-ltb _ _ h) refl)
 
-  pub close-refused : (r : ℕ) → r ≡ refuseClose (s .counts) (s .name) x → (r ≡ 0 → ⊥) → refused r s out ≡ onClose s x out
-  unfolding onClose
-  close-refused r e f = pick-no _ _ _ _ (ne-eqb _ _ (λ z. f (e ∙ z))) (ap (λ n. refused n s out) e)
+  pub event-small : outputNeeded ≤ length out → shortRoom E N ≡ true → toldAs (Refused 15) s E N out ≡ toldOf (event s bytes E N out)
+  unfolding event
+  event-small h k =
+      ap (λ (d : Done). toldOf d) (pick-no _ (refused 15 s E N out) _ _ (le-ltb _ _ h) (pick-yes _ (refused 15 s E N out) _ _ k refl))
 
-  pub close-taken :
-      (r : ℕ) → r ≡ refuseClose (s .counts) (s .name) x → r ≡ 0 → (p : Parts) →
-      p ≡ closedOn (s .plan .deep) (s .plan .main) (s .counts) (framesIn s) (queueIn s) out →
-      p .acted .full ≡ false →
-      _≡_ {A = Done}
-      (record { answer = Taken (p .acted .given); session = whole s (p .frames) (p .queue) (p .acted .counts); out = p .out })
-      (onClose s x out)
-  unfolding onClose
-  close-taken r e z p ep h = pick-yes _ _ _ _ (eq-eqb _ _ (sym e ∙ z)) (settled-taken s p h ∙ ap (settled s) ep)
+  event-within :
+      (d : Done) (E′ N′ : List ℕ) → outputNeeded ≤ length out → shortRoom E N ≡ false → d ≡ within s bytes (take elementsRoom E) (take nodesRoom N) out →
+      E′ ≡ d .elements ++ drop elementsRoom E → N′ ≡ d .nodes ++ drop nodesRoom N →
+      toldAs (d .answer) (d .session) E′ N′ (d .out) ≡ toldOf (event s bytes E N out)
+  unfolding event
+  event-within d E′ N′ h k e eE eN =
+      ap₂ (λ x y. toldAs (d .answer) (d .session) x y (d .out)) eE eN
+      ∙ ap (λ (y : Done). toldOf y)
+      (pick-no _ (beside E N d) _ _ (le-ltb _ _ h) (pick-no _ (beside E N d) _ _ k (ap (beside E N) e)))
+
+-- by the parts of the room that were lent on: k and l are how long they are
+pub event-parts :
+    (s : Session) (bytes E N out : List ℕ) (a : Answer) (t : Session) (A B out′ : List ℕ) (k l : ℕ) → elementsRoom ≡ k → nodesRoom ≡ l →
+    outputNeeded ≤ length out → shortRoom E N ≡ false →
+    _≡_ {A = Done} (record { answer = a; session = t; elements = A; nodes = B; out = out′ }) (within s bytes (take k E) (take l N) out) →
+    toldAs a t (A ++ drop k E) (B ++ drop l N) out′ ≡ toldOf (event s bytes E N out)
+event-parts s bytes E N out a t A B out′ k l ek el h f e =
+    event-within s bytes E N out (record { answer = a; session = t; elements = A; nodes = B; out = out′ }) (A ++ drop k E) (B ++ drop l N) h f
+    (e ∙ ap₂ (λ i j. within s bytes (take i E) (take j N) out) (sym ek) (sym el)) (ap (λ i. A ++ drop i E) (sym ek)) (ap (λ i. B ++ drop i N) (sym el))
 
 -- what stands for the same is the same: the case of the enum, by what it tells
-told-same : (a a′ : Answer) (s s′ : Session) (o o′ : List ℕ) → toldAs a s o ≡ toldAs a′ s′ o′ → (a ≡ a′) × ((s ≡ s′) × (o ≡ o′))
-told-same a a′ s s′ o o′ e =
+told-same :
+    (a a′ : Answer) (s s′ : Session) (E E′ N N′ o o′ : List ℕ) → toldAs a s E N o ≡ toldAs a′ s′ E′ N′ o′ →
+    (a ≡ a′) × ((s ≡ s′) × ((E ≡ E′) × ((N ≡ N′) × (o ≡ o′))))
+told-same a a′ s s′ E E′ N N′ o o′ e =
     let eo : o ≡ o′ = ap (λ (d : ToldDone). d .out) e in (
       told-one a a′ o′ (ap (told a) (sym eo) ∙ ap (λ (d : ToldDone). d .answer) e),
-      (ap (λ (d : ToldDone). d .session) e, eo),
+      (ap (λ (d : ToldDone). d .session) e, (ap (λ (d : ToldDone). d .elements) e, (ap (λ (d : ToldDone). d .nodes) e, eo))),
     )
 
 pub event-is :
-    (s : Session) (bytes out : List ℕ) (r : Step) (out′ : List ℕ) → EventGives s bytes out r out′ →
-    _≡_ {A = Done} (record { answer = r .answer; session = r .session; out = out′ }) (event s bytes out)
-event-is s bytes out r out′ g =
-    let d : Done = event s bytes out in
-    let e = told-same (r .answer) (d .answer) (r .session) (d .session) out′ (d .out) g in
-    rw (e .0, e .1 .0, e .1 .1)
-
--- "1: output buffer under 516 bytes"
-pub event-short : (s : Session) (bytes out : List ℕ) → length out < 516 → toldAs (Refused 1) s out ≡ toldOf (event s bytes out)
-unfolding event
-event-short s bytes out h = ap (λ (d : Done). toldOf d) (pick-yes _ (refused 1 s out) _ (onEvent s (shown (eventOf bytes)) out) (lt-ltb _ _ h) refl)
-
-pub event-read-as :
-    (s : Session) (bytes out : List ℕ) (e : read-as.Event) (d : Done) → 516 ≤ length out → shown (eventOf bytes) ≡ e → d ≡ onEvent s e out →
-    toldOf d ≡ toldOf (event s bytes out)
-unfolding event
-event-read-as s bytes out e d h is so =
-    ap (λ (x : Done). toldOf x)
-    (pick-no _ d (refused 1 s out) (onEvent s (shown (eventOf bytes)) out) (le-ltb _ _ h) (so ∙ ap (λ (x : read-as.Event). onEvent s x out) (sym is)))
+    (s : Session) (bytes E N out : List ℕ) (r : Step) (E′ N′ out′ : List ℕ) → EventGives s bytes E N out r E′ N′ out′ →
+    _≡_ {A = Done} (record { answer = r .answer; session = r .session; elements = E′; nodes = N′; out = out′ }) (event s bytes E N out)
+event-is s bytes E N out r E′ N′ out′ g =
+    let d : Done = event s bytes E N out in
+    let e = told-same (r .answer) (d .answer) (r .session) (d .session) E′ (d .elements) N′ (d .nodes) out′ (d .out) g in
+    λ i. record { answer = e .0 i; session = e .1 .0 i; elements = e .1 .1 .0 i; nodes = e .1 .1 .1 .0 i; out = e .1 .1 .1 .1 i }
 
 pub event-one :
-    (s : Session) (bytes out : List ℕ) (r r′ : Step) (o o′ : List ℕ) → EventGives s bytes out r o → EventGives s bytes out r′ o′ → (r ≡ r′) × (o ≡ o′)
-event-one s bytes out r r′ o o′ g g′ =
-    let e = told-same (r .answer) (r′ .answer) (r .session) (r′ .session) o o′ (g ∙ sym g′) in
+    (s : Session) (bytes E N out : List ℕ) (r r′ : Step) (A A′ B B′ o o′ : List ℕ) → EventGives s bytes E N out r A B o →
+    EventGives s bytes E N out r′ A′ B′ o′ → (r ≡ r′) × ((A ≡ A′) × ((B ≡ B′) × (o ≡ o′)))
+event-one s bytes E N out r r′ A A′ B B′ o o′ g g′ =
+    let e = told-same (r .answer) (r′ .answer) (r .session) (r′ .session) A A′ B B′ o o′ (g ∙ sym g′) in
     (ap₂ (λ (a : Answer) (t : Session). record { answer = a; session = t }) (e .0) (e .1 .0), e .1 .1)
 
 pub finish-is : (s : Session) (r : finished.Finish) → FinishGives s r → r ≡ finish s

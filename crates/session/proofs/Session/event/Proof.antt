@@ -1,78 +1,76 @@
--- `Session::event` meets its contract. Assumes nothing.
-use mathlib.Core.Path.{refl, sym, _∙_}
+-- Refusals 1 and 15, then the needed part of the room. Assumes nothing.
 use borrow.Author.Needs.{needs}
-use Rattle.session.specs.Event.{onEvent}
-use Rattle.session.specs.Event.Laws.{event-short, event-read-as}
+use native.Mathlib.Omega.{arith}
+use mathlib.Core.Path.{sym, _∙_}
+use lib.Seq.{length-take-le}
+use Rattle.step.specs.Step.Laws.{output-is, held-is}
+use Rattle.session.specs.Begin.Laws.{elements-room, nodes-room, short-elements, short-nodes, room-enough}
+use Rattle.session.specs.Event.Laws.{event-short, event-small, event-parts}
 use Rattle.session.proofs.Session.event.Statement.{statement}
 use Rattle.session.proofs.Session.event.Tie as tie
 
 returns : tie.Need-returns
-returns c = let a = c .before .before .before .args in event-short (a .self) (a .bytes .now) (a .out .now) (c .if1 .taken)
+returns c = let args = c .before .before .before .before .before .args in
+    event-short (args .self) (args .bytes .now) (args .elements .now) (args .nodes .now) (args .out .now) (omega (arith, output-is, held-is))
 
-read-event-requires : tie.Need-read-event-requires
-read-event-requires c κs = search needs
+returns-2 : tie.Need-returns-2
+returns-2 c = let args = c .before .before .before .before .before .before .args in
+    event-small (args .self) (args .bytes .now) (args .elements .now) (args .nodes .now) (args .out .now) (omega (arith, output-is, held-is))
+    (short-elements _ _ (omega (arith, elements-room)))
 
-enum-known-event : tie.Need-enum-known-event
-enum-known-event c = search needs
+returns-3 : tie.Need-returns-3
+returns-3 c = let args = c .before .before .before .before .before .before .before .args in
+    event-small (args .self) (args .bytes .now) (args .elements .now) (args .nodes .now) (args .out .now) (omega (arith, output-is, held-is))
+    (short-nodes _ _ (omega (arith, elements-room)) (omega (arith, nodes-room)))
 
-on-open-requires : tie.Need-on-open-requires
-on-open-requires c κs = search needs
+slice-relend-prefix-within : tie.Need-slice-relend-prefix-within
+slice-relend-prefix-within c = search needs
 
-enum-known-event-2 : tie.Need-enum-known-event-2
-enum-known-event-2 c = search needs
+slice-aggregate-within : tie.Need-slice-aggregate-within
+slice-aggregate-within c = let at-if2 = c .before .before in
+    sym (length-take-le 16384 (at-if2 .before .before .before .before .before .before .args .elements .now) (at-if2 .if2 .left))
 
-on-close-requires : tie.Need-on-close-requires
-on-close-requires c κs = search needs
+slice-relend-prefix-within-2 : tie.Need-slice-relend-prefix-within-2
+slice-relend-prefix-within-2 c = search needs
 
-enum-told : tie.Need-enum-told
-enum-told c = search needs
+slice-aggregate-within-2 : tie.Need-slice-aggregate-within-2
+slice-aggregate-within-2 c = let at-if3 = c .before .before in
+    sym (length-take-le 32768 (at-if3 .before .before .before .before .before .before .before .args .nodes .now) (at-if3 .if3 .left))
+
+within-requires : tie.Need-within-requires
+within-requires c κs = let args = c .before .before .before .before .before .before .before .before .before .before .args in (
+  length-take-le 16384 (args .elements .now) (c .before .before .before .before .if2 .left) ∙ sym elements-room,
+  (length-take-le 32768 (args .nodes .now) (c .before .before .before .if3 .left) ∙ sym nodes-room, omega (arith, output-is, held-is)),
+)
 
 same-length : tie.Need-same-length
 same-length c = search needs
 
-returns-2 : tie.Need-returns-2
-unfolding onEvent
-returns-2 c =
-    let a = c .before .before .before .before .before .before .before .before .before .before .before .args in
-    let read = c .before .before .before .before .before .before .before .read-event .ensures in
-    let wide = c .before .before .before .before .before .before .before .before .if1 .left in
-    let known = c .before .before .before .before .before .event .given .1 in
-    event-read-as (a .self) (a .bytes .now) (a .out .now) _ _ wide (sym read ∙ known) (c .before .before .on-open .ensures)
-
 same-length-2 : tie.Need-same-length-2
 same-length-2 c = search needs
 
-returns-3 : tie.Need-returns-3
-unfolding onEvent
-returns-3 c =
-    let a = c .before .before .before .before .before .before .before .before .before .before .before .args in
-    let read = c .before .before .before .before .before .before .before .read-event .ensures in
-    let wide = c .before .before .before .before .before .before .before .before .if1 .left in
-    let known = c .before .before .before .before .before .event2 .given .1 in
-    event-read-as (a .self) (a .bytes .now) (a .out .now) _ _ wide (sym read ∙ known) (c .before .before .on-close .ensures)
+same-length-3 : tie.Need-same-length-3
+same-length-3 c = search needs
 
 returns-4 : tie.Need-returns-4
-unfolding onEvent
-returns-4 c =
-    let a = c .before .before .before .before .before .before .args in
-    let read = c .before .before .read-event .ensures in
-    let wide = c .before .before .before .if1 .left in
-    let known = c .enum-told .given .1 in
-    event-read-as (a .self) (a .bytes .now) (a .out .now) _ _ wide (sym read ∙ known) refl
+returns-4 c = let at-within = c .before .before .before .before .before .before in
+    let args = at-within .before .before .before .before .before .before .before .before .before .before .before .args in
+    event-parts (args .self) (args .bytes .now) (args .elements .now) (args .nodes .now) (args .out .now) _ _ _ _ _ 16384 32768 elements-room nodes-room
+    (omega (arith, output-is, held-is)) (room-enough _ _ (omega (arith, elements-room)) (omega (arith, nodes-room))) (at-within .within .ensures)
 
 pub event-spec : {M : Type 1} → statement M
 event-spec =
     tie.close
     (tie.spec
     returns
-    read-event-requires
-    enum-known-event
-    on-open-requires
-    enum-known-event-2
-    on-close-requires
-    enum-told
-    same-length
     returns-2
-    same-length-2
     returns-3
+    slice-relend-prefix-within
+    slice-aggregate-within
+    slice-relend-prefix-within-2
+    slice-aggregate-within-2
+    within-requires
+    same-length
+    same-length-2
+    same-length-3
     returns-4)

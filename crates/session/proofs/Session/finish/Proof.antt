@@ -1,8 +1,8 @@
--- `Session::finish` meets its contract: each of its two tests is named. Assumes nothing.
+-- The two cases. Assumes nothing.
 use mathlib.Core.Path.{refl, ap}
 use Rattle.choice.specs.Pick.{pick-yes, pick-no}
-use Rattle.session.specs.Event.{finish}
 use Rattle.session.specs.Told.{ended}
+use Rattle.session.specs.Event.{finish}
 use Rattle.session.proofs.Session.finish.Statement.{statement}
 use Rattle.session.proofs.Session.finish.Tie as tie
 

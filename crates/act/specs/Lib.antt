@@ -1,2 +1,0 @@
-pub mod Refuse
-pub mod Act

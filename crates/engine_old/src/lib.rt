@@ -1,1 +1,0 @@
-// The engine as pure functions has no code: everything is in specs/.

@@ -1,4 +1,0 @@
-pub mod Told
-pub mod Begin
-pub mod Event
-pub mod Run

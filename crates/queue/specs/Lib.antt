@@ -1,4 +1,0 @@
-pub mod Loops
-pub mod LoopsLaws
-pub mod Queue
-pub mod QueueLaws

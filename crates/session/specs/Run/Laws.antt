@@ -1,0 +1,237 @@
+-- That a block is single events, and that the promise of run allows one result.
+--
+--   seen s A B t                        what an event is taken at, by what a step is: A and B are the bytes past the needed ones
+--   steps-alike                         an event on it is a step
+--   run-few, run-short, run-small       no whole record; refusal 1 would come; refusal 15
+--   run-parts                           any other block, by the parts of the room that were lent on
+--   run-within                          a block on the room that is needed, by what feed gives
+--   run-one                             two results that the promise allows are equal, and so is all that was lent
+--
+-- What is large is given explicitly. Assumes nothing.
+use Prim.Native.Nat.{ℕ, zero, suc, _+_, _-_, _*_, _/_, _≤_, _<_}
+use native.Mathlib.Omega.{arith}
+use mathlib.Core.Path.{_≡_, refl, sym, ap, ap₂, _∙_}
+use mathlib.Core.Bool.{Bool, true, false, not}
+use mathlib.Core.List.{List, _++_}
+use mir.Val.{boolByte}
+use lib.Dec.{eqb}
+use lib.ListN.{length, take, drop, take-append-drop, length-append}
+use lib.Seq.{length-take-le, take-at, drop-at}
+use borrow.Author.Tests.{eqb-true, eqb-false, ne-eqb, lt-ltb, le-ltb}
+use Rattle.choice.specs.Pick.{pick, pick-true, pick-false, pick-yes, pick-no, pick-known}
+use Rattle.choice.specs.Count.{boolByte-le}
+use Rattle.element.specs.Element.{elementsRoom}
+use Rattle.node.specs.Node.{nodesRoom}
+use Rattle.numbers.specs.Numbers.{Numbers}
+use Rattle.plan.specs.Plan.{Plan}
+use Rattle.plan_bytes.specs.Kept.{keptIn}
+use Rattle.step.specs.Step.{outputNeeded}
+use Rattle.feed.specs.Fed.{Came, Fed, one, andThen, fed}
+use Rattle.feed.specs.Fed.Across.{across, allAcross, Alike, fed-across}
+use Rattle.feed.specs.Steps.{Seat, seat, came, stepAt, Whole}
+use Rattle.feed.specs.Steps.Laws.{refused-at, whole-step}
+use Rattle.session.specs.declared.Session.{Session}
+use Rattle.session.specs.declared.Ran.{Ran}
+use Rattle.session.specs.Begin.{shortRoom}
+use Rattle.session.specs.Begin.Laws.{room-enough}
+use Rattle.session.specs.Event.{Done, numbersOf, withNumbers, settled, within, beside, event}
+use Rattle.session.specs.Run.{Lent, lent, refusalOf, givenOf, cameTo, eventAt, ran, runWithin, RunGives}
+
+-- the numbers there and back
+
+bit-back : (b : Bool) → not (eqb (boolByte b) 0) ≡ b
+bit-back true = refl
+bit-back false = refl
+
+again : (s : Session) → withNumbers s (numbersOf s) ≡ s
+again s =
+    ap (λ (b : Bool). record { kept = s .kept; depth = s .depth; held = s .held; opened = s .opened; handed = s .handed; ended = b }) (bit-back (s .ended))
+
+said-bit : (n : ℕ) → n ≤ 1 → boolByte (not (eqb n 0)) ≡ n
+said-bit zero h = refl
+said-bit (suc zero) h = refl
+said-bit (suc (suc n)) h = absurd (omega arith)
+
+there : (s : Session) (n : Numbers) → n .ended ≤ 1 → numbersOf (withNumbers s n) ≡ n
+there s n h =
+    ap (λ (k : ℕ). record { depth = n .depth; held = n .held; opened = n .opened; handed = n .handed; ended = k }) (said-bit (n .ended) h)
+
+-- an event on what is seen is a step
+
+abbrev seen : Session → List ℕ → List ℕ → Seat → Lent
+seen s A B t = lent (withNumbers s (t .numbers)) (t .elements ++ A) (t .nodes ++ B)
+
+module _ (s : Session) (A B : List ℕ) (t : Seat) (bytes out : List ℕ) (w : Whole t) where
+  abbrev P : Plan
+  P = keptIn (s .kept)
+
+  abbrev now : Session
+  now = withNumbers s (t .numbers)
+
+  fit-E : take elementsRoom (t .elements ++ A) ≡ t .elements
+  fit-E = take-at (t .elements) A elementsRoom (w .elements)
+
+  fit-N : take nodesRoom (t .nodes ++ B) ≡ t .nodes
+  fit-N = take-at (t .nodes) B nodesRoom (w .nodes)
+
+  rest-E : drop elementsRoom (t .elements ++ A) ≡ A
+  rest-E = drop-at (t .elements) A elementsRoom (w .elements)
+
+  rest-N : drop nodesRoom (t .nodes ++ B) ≡ B
+  rest-N = drop-at (t .nodes) B nodesRoom (w .nodes)
+
+  enough : shortRoom (t .elements ++ A) (t .nodes ++ B) ≡ false
+  enough =
+      room-enough _ _ (omega (arith, length-append (t .elements) A, w .elements)) (omega (arith, length-append (t .nodes) B, w .nodes))
+
+  within-is : within now bytes (t .elements) (t .nodes) out ≡ settled now (t .elements) (t .nodes) out (stepAt P t bytes out)
+  unfolding within
+  within-is =
+      ap (λ (n : Numbers). settled now (t .elements) (t .nodes) out (stepAt P (seat n (t .elements) (t .nodes)) bytes out)) (there s (t .numbers) (w .said))
+
+  -- the bytes past the needed ones
+  abbrev with-rest : Done → Done
+  with-rest d = record { answer = d .answer; session = d .session; elements = d .elements ++ A; nodes = d .nodes ++ B; out = d .out }
+
+  settled-is :
+      (c : Came Seat) → ((c .refusal ≡ 0 → ⊥) → c ≡ came (c .refusal) 0 t out) →
+      cameTo (with-rest (settled now (t .elements) (t .nodes) out c)) ≡ across (seen s A B) c
+  unfolding settled refusalOf givenOf
+  settled-is c kept =
+      pick-known (λ (d : Done). cameTo (with-rest d) ≡ across (seen s A B) c) (eqb (c .refusal) 0) _ _
+      (λ e. ap (λ (r : ℕ). record { refusal = r; given = c .given; seat = seen s A B (c .seat); out = c .out }) (sym (eqb-true _ _ e)))
+      (λ e. sym (ap (λ (y : Came Seat). across (seen s A B) y) (kept (eqb-false _ _ e))))
+
+  event-seen : outputNeeded ≤ length out → eventAt (seen s A B t) bytes out ≡ across (seen s A B) (stepAt P t bytes out)
+  unfolding eventAt event
+  event-seen h =
+      ap (λ (y : Done). cameTo y)
+      (pick-false _ _ _ (le-ltb _ _ h)
+      ∙ pick-false _ _ _ enough
+      ∙ ap₂ (λ X Y. beside (t .elements ++ A) (t .nodes ++ B) (within now bytes X Y out)) fit-E fit-N
+      ∙ ap (beside (t .elements ++ A) (t .nodes ++ B)) within-is
+      ∙ ap₂ (λ X Y. record {
+        answer = d .answer;
+        session = d .session;
+        elements = d .elements ++ X;
+        nodes = d .nodes ++ Y;
+        out = d .out;
+      }) rest-E rest-N)
+      ∙ settled-is (stepAt P t bytes out) (refused-at P t bytes out)
+    where
+      d : Done
+      d = settled now (t .elements) (t .nodes) out (stepAt P t bytes out)
+
+module _ (s : Session) (A B : List ℕ) where
+  steps-alike : Alike (seen s A B) eventAt (stepAt (keptIn (s .kept))) Whole
+  steps-alike =
+      record {
+        stays = λ t bytes out w. whole-step (keptIn (s .kept)) t bytes out w;
+        same = λ t bytes out w h. event-seen s A B t bytes out w h;
+      }
+
+  block-seen :
+      (n : ℕ) (t : Seat) (es out : List ℕ) → Whole t →
+      fed eventAt n (seen s A B t) es out ≡ allAcross (seen s A B) (fed (stepAt (keptIn (s .kept))) n t es out)
+  block-seen = fed-across (seen s A B) eventAt (stepAt (keptIn (s .kept))) Whole steps-alike
+
+-- no event is looked at, or the first is refused for want of room
+
+abbrev stayed : Session → ℕ → Ran
+stayed s refusal = record { session = s; taken = 0; listed = 0; refusal = refusal }
+
+module _ (s : Session) (es E N out : List ℕ) where
+  abbrev Gives : Ran → Type 0
+  Gives r = RunGives s es E N out r E N out × ((8 * r .taken ≤ length es) × (4 * r .listed ≤ length out))
+
+  still : (refusal : ℕ) (r : Ran) → r ≡ stayed s refusal → RunGives s es E N out (stayed s refusal) E N out → Gives r
+  still refusal r e h = (
+    ap (λ (x : Ran). ran x E N out) e ∙ h,
+    (omega (arith, ap (λ (x : Ran). x .taken) e), omega (arith, ap (λ (x : Ran). x .listed) e)),
+  )
+
+  pub run-few : (r : Ran) → r ≡ stayed s 0 → length es < 8 → Gives r
+  unfolding fed
+  run-few r e h = still 0 r e (ap (λ (n : ℕ). fed eventAt n (lent s E N) es out) (sym few))
+    where
+      few : length es / 8 ≡ 0
+      few = omega arith
+
+  short : (n : ℕ) → length out < outputNeeded → ran (stayed s 0) E N out ≡ fed eventAt n (lent s E N) es out
+  unfolding fed
+  short zero h = refl
+  short (suc n) h = pick-yes _ _ _ _ (lt-ltb _ _ h) refl
+
+  pub run-short : (r : Ran) → r ≡ stayed s 0 → length out < outputNeeded → Gives r
+  run-short r e h = still 0 r e (short (length es / 8) h)
+
+  -- "15 comes directly after 1 and before all others"
+  small-event :
+      (bytes : List ℕ) → outputNeeded ≤ length out → shortRoom E N ≡ true →
+      eventAt (lent s E N) bytes out ≡ record { refusal = 15; given = 0; seat = lent s E N; out = out }
+  unfolding eventAt event refusalOf givenOf
+  small-event bytes h k = ap (λ (d : Done). cameTo d) (pick-false _ _ _ (le-ltb _ _ h) ∙ pick-true _ _ _ k)
+
+  small :
+      (n : ℕ) → 0 < n → outputNeeded ≤ length out → shortRoom E N ≡ true → ran (stayed s 15) E N out ≡ fed eventAt n (lent s E N) es out
+  unfolding fed
+  small zero l h k = absurd (omega arith)
+  small (suc n) l h k =
+      pick-no _ _ _ _ (le-ltb _ _ h)
+      (sym (ap (λ (c : Came Lent). pick (eqb (c .refusal) 0)
+      (andThen (one c) (fed eventAt n (c .seat) (drop 8 es) (drop (4 * c .given) (c .out)))) (one c)) (small-event (take 8 es) h k)
+      ∙ pick-false _ _ _ (ne-eqb 15 0 (λ z. omega arith))))
+
+  pub run-small : (r : Ran) → r ≡ stayed s 15 → 8 ≤ length es → outputNeeded ≤ length out → shortRoom E N ≡ true → Gives r
+  run-small r e l h k = still 15 r e (small (length es / 8) (omega arith) h k)
+
+-- any other block: k and l are how long the parts of the room are that were lent on
+
+whole-at : (s : Session) (E N : List ℕ) → length E ≡ elementsRoom → length N ≡ nodesRoom → Whole (seat (numbersOf s) E N)
+whole-at s E N e f = record { elements = e; nodes = f; said = boolByte-le (s .ended) }
+
+module _ (s : Session) (es E N out : List ℕ) (k l : ℕ) (ek : elementsRoom ≡ k) (el : nodesRoom ≡ l) (longE : k ≤ length E) (longN : l ≤ length N) where
+  start-is : lent s E N ≡ seen s (drop k E) (drop l N) (seat (numbersOf s) (take k E) (take l N))
+  start-is = λ i. lent (sym (again s) i) (sym (take-append-drop k E) i) (sym (take-append-drop l N) i)
+
+  wide : Whole (seat (numbersOf s) (take k E) (take l N))
+  wide = whole-at s (take k E) (take l N) (length-take-le k E longE ∙ sym ek) (length-take-le l N longN ∙ sym el)
+
+  pub run-parts :
+      (r : Ran) (A B out′ : List ℕ) → ran r A B out′ ≡ runWithin s es (take k E) (take l N) out →
+      RunGives s es E N out r (A ++ drop k E) (B ++ drop l N) out′
+  unfolding runWithin
+  run-parts r A B out′ e =
+      ap (λ (f : Fed Lent). record {
+        seat = lent (f .seat .session) (f .seat .elements ++ drop k E) (f .seat .nodes ++ drop l N);
+        taken = f .taken;
+        listed = f .listed;
+        refusal = f .refusal;
+        out = f .out;
+      }) e
+      ∙ sym (ap (λ (x : Lent). fed eventAt (length es / 8) x es out) start-is ∙ block-seen s (drop k E) (drop l N) (length es / 8) _ es out wide)
+
+-- by what feed gives
+pub run-within :
+    (s t : Session) (es E N out : List ℕ) (n n′ : Numbers) (taken listed refusal : ℕ) (E′ N′ out′ : List ℕ) → n ≡ numbersOf s → t ≡ withNumbers s n′ →
+    _≡_ {A = Fed Seat} (record { seat = seat n′ E′ N′; taken = taken; listed = listed; refusal = refusal; out = out′ })
+    (fed (stepAt (keptIn (s .kept))) (length es / 8) (seat n E N) es out) →
+    ran (record { session = t; taken = taken; listed = listed; refusal = refusal }) E′ N′ out′ ≡ runWithin s es E N out
+unfolding runWithin
+run-within s t es E N out n n′ taken listed refusal E′ N′ out′ laid-as et e =
+    ap (λ (u : Session). record { seat = lent u E′ N′; taken = taken; listed = listed; refusal = refusal; out = out′ }) et
+    ∙ ap (λ (f : Fed Seat). allAcross (λ (x : Seat). lent (withNumbers s (x .numbers)) (x .elements) (x .nodes)) f)
+    (e ∙ ap (λ (m : Numbers). fed (stepAt (keptIn (s .kept))) (length es / 8) (seat m E N) es out) laid-as)
+
+pub run-one :
+    (s : Session) (es E N out : List ℕ) (r r′ : Ran) (A A′ B B′ o o′ : List ℕ) → RunGives s es E N out r A B o → RunGives s es E N out r′ A′ B′ o′ →
+    (r ≡ r′) × ((A ≡ A′) × ((B ≡ B′) × (o ≡ o′)))
+run-one s es E N out r r′ A A′ B B′ o o′ g g′ =
+    let e = g ∙ sym g′ in
+    let e-session = ap (λ (f : Fed Lent). f .seat .session) e in
+    let e-taken = ap (λ (f : Fed Lent). f .taken) e in
+    let e-listed = ap (λ (f : Fed Lent). f .listed) e in
+    let e-refusal = ap (λ (f : Fed Lent). f .refusal) e in (
+      λ i. record { session = e-session i; taken = e-taken i; listed = e-listed i; refusal = e-refusal i },
+      (ap (λ (f : Fed Lent). f .seat .elements) e, (ap (λ (f : Fed Lent). f .seat .nodes) e, ap (λ (f : Fed Lent). f .out) e)),
+    )

@@ -1,4 +1,0 @@
-pub mod Loops
-pub mod Frames
-pub mod LoopsLaws
-pub mod FramesLaws
