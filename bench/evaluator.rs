@@ -11,9 +11,10 @@ use std::fs::File;
 use std::io::{self, BufWriter, Read, Write};
 use std::path::Path;
 
-const MOST_OPEN: usize = 64;
-const MOST_HELD: usize = 128;
+const MOST_OPEN: usize = 256;
+const MOST_HELD: usize = 1_024;
 const MOST_NODES: u32 = 16_777_215;
+const MOST_STEPS: usize = 32;
 const BLOCK: usize = 1 << 16;
 
 /// A set of steps.
@@ -51,7 +52,7 @@ impl QueryFault {
 
 impl Plan {
     fn new(query: &[u8]) -> Result<Plan, QueryFault> {
-        if query.is_empty() || query.len() % 8 != 0 || query.len() > 256 {
+        if query.is_empty() || query.len() % 8 != 0 || query.len() > 8 * MOST_STEPS {
             return Err(QueryFault::Length);
         }
         let records: Vec<&[u8]> = query.chunks_exact(8).collect();
@@ -340,12 +341,12 @@ fn run(mut evaluator: Evaluator, mut events: impl Read, to: &mut impl Write) -> 
     })
 }
 
-/// At most 264 bytes are looked at: a longer query is refused whatever else it holds.
+/// One step more than a query may have is looked at: a longer query is refused whatever else it holds.
 fn read_query(path: &Path) -> Vec<u8> {
     let mut query = Vec::new();
     if let Ok(file) = File::open(path) {
         // A file that fails while being read counts as far as it went.
-        let _ = file.take(264).read_to_end(&mut query);
+        let _ = file.take(8 * (MOST_STEPS as u64 + 1)).read_to_end(&mut query);
     }
     query
 }

@@ -12,6 +12,8 @@ PROGRAM = os.path.abspath(os.environ.get("PROGRAM", os.path.join(HERE, "..", "ta
 # The document and the query of the study piece P1.
 BOOK = "book(section(section(section(table(table(table(cell)) position))) author))"
 CELLS = "//section[author]//table[position]//cell"
+# A session's limits (docs/FORMATS.md).
+MOST_OPEN, MOST_HELD, MOST_STEPS = 256, 1024, 32
 
 
 class Folder(unittest.TestCase):

@@ -5,9 +5,9 @@ import subprocess
 import sys
 import unittest
 
-from folder import BOOK, CELLS, Folder, HERE, PROGRAM
+from folder import BOOK, CELLS, Folder, HERE, MOST_HELD, MOST_OPEN, PROGRAM
 
-# Document 01's P cases that are a document and a query, and R1 and R2: what the program writes.
+# Document 01's P cases that are a document and a query, and the R cases that are a stream: what the program writes.
 STUDY = [
     ("P1", BOOK, CELLS, "8 end 1"),
     ("P2", BOOK.replace(" author", ""), CELLS, "end 0"),
@@ -22,9 +22,11 @@ STUDY = [
     ("P11", "-r", "/r", "refused 4 at 1"),
     ("P11, finish", "", "/r", "refused 8 at 0"),
     ("P12, up to the refusal", "+r -d -r", "/r", "1 refused 4 at 2"),
-    ("R1", "r(d*128 c)", "/child::*[child::c]/child::*", " ".join(map(str, range(2, 131))) + " end 129"),
-    ("R2", "r(d*129 c)", "/child::*[child::c]/child::*", "refused 7 at 258"),
-    ("R3", "+r " * 65, "/child::d", "refused 5 at 65"),
+    ("R1", f"r(d*{MOST_HELD} c)", "/child::*[child::c]/child::*",
+     " ".join(map(str, range(2, MOST_HELD + 3))) + f" end {MOST_HELD + 1}"),
+    ("R2", f"r(d*{MOST_HELD + 1} c)", "/child::*[child::c]/child::*", f"refused 7 at {2 * (MOST_HELD + 1)}"),
+    ("R3", "+r " * MOST_OPEN, "/child::d", f"refused 8 at {MOST_OPEN}"),
+    ("R3, one more", "+r " * (MOST_OPEN + 1), "/child::d", f"refused 5 at {MOST_OPEN + 1}"),
 ]
 
 

@@ -6,7 +6,7 @@ import threading
 import time
 import unittest
 
-from folder import Folder, RECORDS
+from folder import Folder, MOST_OPEN, RECORDS
 
 
 class Writing(Folder):
@@ -113,9 +113,13 @@ class Writing(Folder):
         self.assertEqual(len(self.file("there")), 8)
 
     def test_depth_is_noted(self):
-        self.assertEqual(self.records("events", "a(" * 63 + "a" + ")" * 63).stderr, "new in names.txt: a = 1\n")
-        said = "event 65 opens an element inside 64 others: the session will refuse it with 5"
-        for text in ["a(" * 64 + "a" + ")" * 64, "+a " * 65]:
+        def nest(deep):
+            return "a(" * (deep - 1) + "a" + ")" * (deep - 1)
+
+        self.assertEqual(self.records("events", nest(MOST_OPEN)).stderr, "new in names.txt: a = 1\n")
+        self.assertEqual(self.records("events", "+a " * MOST_OPEN).stderr, "")
+        said = f"event {MOST_OPEN + 1} opens an element inside {MOST_OPEN} others: the session will refuse it with 5"
+        for text in [nest(MOST_OPEN + 1), "+a " * (MOST_OPEN + 1)]:
             done = self.records("events", text)
             self.assertIn(said, done.stderr)
             self.assertEqual(done.returncode, 0)

@@ -4,7 +4,8 @@ import struct
 from lib.text import Text, is_number
 
 OPEN, CLOSE = 1, 2
-MOST_OPEN, MOST_NODES = 64, 16_777_215
+# The limits of a session that a stream alone can pass.
+MOST_OPEN, MOST_NODES = 256, 16_777_215
 # More than a session can take, and as much as a slip of the pen should cost.
 MOST_EVENTS = 40_000_000
 # Up to how many events the nested form is shown, and up to which depth a line is indented.

@@ -1,10 +1,13 @@
-//! Cases of several kinds: the bytes of the two files, or their absence.
+//! Cases of several kinds: the bytes of their files, or the absence of one.
 
 use crate::chance::Chance;
-use crate::queries::{any, document, guided, MOST_STEPS};
-use crate::shapes::{bytes, element, long, names, nest, row, tree, Events};
+use crate::lending::lending;
+use crate::queries::{any, document, guided};
+use crate::shapes::{bytes, long, names, nest, tree};
+use crate::waiting;
 use second::query::{write, Axis, Step};
 use second::records::Event;
+use second::MOST_STEPS;
 
 #[derive(Clone, Copy, Debug, PartialEq, Eq, Hash, PartialOrd, Ord)]
 pub enum Kind {
@@ -12,9 +15,13 @@ pub enum Kind {
     Small,
     /// Trees of some dozens of nodes and queries of up to 32 steps.
     Wide,
-    /// Deep nests of one name.
+    /// Trees of hundreds of nodes and more.
+    Large,
+    /// Deep nests of one name, up to the depth that may be open and past it.
     Nest,
-    /// Held nodes up to the brim of 128 and past it.
+    /// Some hundred held nodes.
+    Many,
+    /// Held nodes up to the brim and past it.
     Brim,
     /// A stream cut after each of its events in turn.
     Cut,
@@ -39,13 +46,17 @@ pub struct Case {
     pub query: Option<Vec<u8>>,
     /// The bytes of events.rec; nothing if there is no such file.
     pub events: Option<Vec<u8>>,
+    /// The bytes of lent.rec, which a trace reads; nothing if enough is lent.
+    pub lent: Option<Vec<u8>>,
 }
 
 impl Kind {
-    pub const ALL: [Kind; 11] = [
+    pub const ALL: [Kind; 13] = [
         Kind::Small,
         Kind::Wide,
+        Kind::Large,
         Kind::Nest,
+        Kind::Many,
         Kind::Brim,
         Kind::Cut,
         Kind::DamagedEvents,
@@ -59,7 +70,18 @@ impl Kind {
 
 impl Case {
     fn of(kind: Kind, query: &[Step], events: &[Event]) -> Case {
-        Case { kind, query: Some(write(query)), events: Some(bytes(events)) }
+        Case { kind, query: Some(write(query)), events: Some(bytes(events)), lent: None }
+    }
+
+    /// The case with too little lent now and then; a long stream is left as it is.
+    pub fn lent_to(self, chance: &mut Chance) -> Case {
+        match &self.events {
+            Some(events) if self.kind != Kind::Long => {
+                let (events, lent) = lending(chance, events);
+                Case { events: Some(events), lent: Some(lent), ..self }
+            }
+            _ => self,
+        }
     }
 
     /// The bytes that the program sees: "a file that can't be opened counts as empty".
@@ -73,16 +95,20 @@ pub fn cases(seed: u64) -> impl Iterator<Item = Case> {
     (0..).flat_map(move |place| group(&mut Chance::new(seed, place), place))
 }
 
-/// In each 400 groups one is long; in each 30, one is a stream cut at every event.
+/// In each 400 groups one is long and four are large; in each 30, one is a stream cut at every event.
 fn group(chance: &mut Chance, place: u64) -> Vec<Case> {
     if place % 400 == 13 {
         return vec![long_case(chance)];
+    }
+    if place % 100 == 37 {
+        return vec![large(chance)];
     }
     let one = match place % 30 {
         0..=5 => small(chance),
         6..=10 => wide(chance),
         11..=13 => nested(chance),
-        14..=17 => brim(chance),
+        14..=15 => many(chance),
+        16..=17 => brim(chance),
         18..=21 => damaged_events(chance),
         22..=24 => damaged_query(chance),
         25..=26 => truncated(chance),
@@ -121,68 +147,26 @@ fn nested(chance: &mut Chance) -> Case {
     let events = nest(chance, &names);
     let most = if chance.percent(30) { MOST_STEPS } else { 8 };
     let steps = chance.between(1, most);
-    Case::of(Kind::Nest, &query_for(chance, &events, &names, steps), &events)
+    let query = if chance.percent(30) { waiting::query(chance) } else { query_for(chance, &events, &names, steps) };
+    Case::of(Kind::Nest, &query, &events)
 }
 
-const R: u16 = 1;
-const D: u16 = 2;
-const C: u16 = 3;
-const Z: u16 = 4;
-
-/// A main-path step, and a predicate step.
-fn main(axis: Axis, hangs_on: usize, name: u16) -> Step {
-    Step { axis, main: true, hangs_on, name }
+fn large(chance: &mut Chance) -> Case {
+    let events = waiting::tree(chance);
+    let steps = chance.between(2, 12);
+    let query =
+        if chance.percent(60) { waiting::query(chance) } else { query_for(chance, &events, &waiting::NAMES, steps) };
+    Case::of(Kind::Large, &query, &events)
 }
 
-fn has(axis: Axis, hangs_on: usize, name: u16) -> Step {
-    Step { axis, main: false, hangs_on, name }
+fn many(chance: &mut Chance) -> Case {
+    let (query, events) = waiting::many(chance);
+    Case::of(Kind::Many, &query, &events)
 }
 
-/// Queries under which many nodes wait: for z in the document element, for c in their own group, or for both.
-fn waiting_query(chance: &mut Chance) -> Vec<Step> {
-    use Axis::*;
-    let below = *chance.pick(&[Child, Descendant]);
-    match chance.between(0, 5) {
-        0 => vec![main(Child, 0, 0), has(Child, 1, C), main(below, 1, 0)],
-        1 => vec![main(below, 0, R), has(below, 1, Z), main(Descendant, 1, D), has(Child, 3, C)],
-        2 => vec![main(Child, 0, R), main(Descendant, 1, D), has(below, 1, Z)],
-        3 => vec![main(Descendant, 0, 0), has(Descendant, 1, Z)],
-        4 => vec![main(Descendant, 0, R), has(Child, 1, Z), has(Child, 2, C), main(Descendant, 1, D)],
-        _ => vec![main(Descendant, 0, 0), has(Child, 1, C), main(Descendant, 1, 0), has(below, 3, Z)],
-    }
-}
-
-/// One to three rounds of about 128 elements that may wait, each round ended by what they wait for, or by something else.
 fn brim(chance: &mut Chance) -> Case {
-    let mut inside: Events = Vec::new();
-    for _ in 0..chance.between(1, 3) {
-        let count = match chance.between(0, 9) {
-            0..=3 => 128,
-            4..=7 => chance.between(125, 132),
-            _ => chance.between(90, 170),
-        };
-        let mixed = chance.percent(50);
-        let grouped = chance.percent(40);
-        let mut round: Events = Vec::new();
-        for _ in 0..count {
-            let content = match chance.between(0, 5) {
-                0 if mixed => element(C, vec![]),
-                1 if mixed => element(Z, vec![]),
-                2 if mixed => row(chance, &[R, D, C], 3, 3, 60),
-                _ => vec![],
-            };
-            let name = if mixed && chance.percent(15) { R } else { D };
-            round.extend(element(name, content));
-        }
-        let last = *chance.pick(&[C, C, Z, Z, D]);
-        round.extend(element(last, if chance.percent(30) { element(C, vec![]) } else { vec![] }));
-        inside.extend(if grouped { element(*chance.pick(&[R, D]), round) } else { round });
-        if chance.percent(40) {
-            inside.extend(element(*chance.pick(&[C, Z]), vec![]));
-        }
-    }
-    let query = waiting_query(chance);
-    Case::of(Kind::Brim, &query, &element(R, inside))
+    let (query, events) = waiting::brim(chance);
+    Case::of(Kind::Brim, &query, &events)
 }
 
 /// A case to be damaged.
@@ -195,25 +179,33 @@ fn base(chance: &mut Chance) -> Case {
 }
 
 fn cut(chance: &mut Chance) -> Vec<Case> {
-    let whole = small(chance);
-    let events = whole.events.unwrap_or_default();
-    let prefix =
-        |length: usize| Case { kind: Kind::Cut, query: whole.query.clone(), events: Some(events[..length].to_vec()) };
+    let whole = Case { kind: Kind::Cut, ..small(chance) };
+    let events = whole.seen().1;
+    let prefix = |length: usize| Case { events: Some(events[..length].to_vec()), ..whole.clone() };
     (0..=events.len()).step_by(8).map(prefix).collect()
 }
 
 fn damaged_events(chance: &mut Chance) -> Case {
-    let mut case = if chance.percent(15) { brim(chance) } else { base(chance) };
+    let mut case = match chance.between(0, 19) {
+        0..=1 => many(chance),
+        2 => brim(chance),
+        _ => base(chance),
+    };
     let mut records: Vec<Vec<u8>> = case.seen().1.chunks(8).map(<[u8]>::to_vec).collect();
     for _ in 0..chance.between(1, 3) {
         let place = chance.between(0, records.len() - 1);
-        match chance.between(0, 6) {
+        match chance.between(0, 7) {
             0 => records[place][chance.between(0, 7)] = chance.byte(),
             1 => records[place][chance.between(0, 7)] ^= 1 << chance.between(0, 7),
             2 => records[place][0] ^= 3,
             3 => records[place][3] = chance.between(0, 4) as u8,
             4 => records.insert(place, records[chance.between(0, records.len() - 1)].clone()),
             5 => records.push(records[place].clone()),
+            6 => {
+                // After the end of the document, if nothing else is damaged.
+                records.push(records[place].clone());
+                records.last_mut().expect("the one just pushed")[chance.between(0, 7)] = chance.byte();
+            }
             _ if records.len() > 1 => drop(records.remove(place)),
             _ => records.swap(0, place),
         }
@@ -225,7 +217,7 @@ fn damaged_events(chance: &mut Chance) -> Case {
 fn damaged_query(chance: &mut Chance) -> Case {
     let case = base(chance);
     let mut query = case.seen().0.to_vec();
-    match chance.between(0, 5) {
+    match chance.between(0, 6) {
         0 => {
             let place = chance.between(0, query.len() - 1);
             query[place] = chance.byte();
@@ -240,10 +232,15 @@ fn damaged_query(chance: &mut Chance) -> Case {
             query[place] = chance.between(0, 4) as u8;
         }
         3 => {
-            let steps = chance.between(33, 40);
-            query = write(&any(chance, &[R, D, C], steps));
+            // A step that hangs on another one than before, or on itself.
+            let step = chance.between(1, query.len() / 8);
+            query[8 * step - 6] = chance.between(0, step) as u8;
         }
         4 => {
+            let steps = chance.between(MOST_STEPS + 1, MOST_STEPS + 8);
+            query = write(&any(chance, &waiting::NAMES, steps));
+        }
+        5 => {
             let length = chance.between(0, query.len() + 9);
             query.resize(length, 0);
         }
@@ -272,7 +269,7 @@ fn absent(chance: &mut Chance) -> Case {
         1 => Case { kind: Kind::Absent, events: None, ..case },
         2 => Case { kind: Kind::Absent, query: Some(vec![]), ..case },
         3 => Case { kind: Kind::Absent, events: Some(vec![]), ..case },
-        _ => Case { kind: Kind::Absent, query: None, events: None },
+        _ => Case { kind: Kind::Absent, query: None, events: None, ..case },
     }
 }
 
@@ -306,7 +303,7 @@ fn long_case(chance: &mut Chance) -> Case {
 
 /// The query under the document element: `/child::*` first, and the old first step below it.
 fn local(query: Vec<Step>) -> Vec<Step> {
-    let mut steps = vec![main(Axis::Child, 0, 0)];
+    let mut steps = vec![Step { axis: Axis::Child, main: true, hangs_on: 0, name: 0 }];
     steps.extend(query.into_iter().map(|s| Step { hangs_on: s.hangs_on + 1, ..s }));
     steps
 }

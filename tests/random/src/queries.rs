@@ -5,8 +5,6 @@ use second::query::{Axis, Step};
 use second::records::Event;
 use second::tree::Tree;
 
-pub const MOST_STEPS: usize = 32;
-
 /// The document of accepted events.
 pub fn document(events: &[Event]) -> Tree {
     let mut tree = Tree::default();

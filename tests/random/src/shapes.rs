@@ -2,8 +2,12 @@
 
 use crate::chance::Chance;
 use second::records::{record, Event};
+use second::MOST_OPEN;
 
 pub type Events = Vec<Event>;
+
+/// The deepest nest.
+const DEEPEST: usize = 300;
 
 pub fn bytes(events: &[Event]) -> Vec<u8> {
     events.iter().flat_map(|e| record(*e)).collect()
@@ -42,13 +46,23 @@ pub fn row(chance: &mut Chance, names: &[u16], nodes: usize, deep: usize, lean: 
 pub fn tree(chance: &mut Chance, names: &[u16], most: usize) -> Events {
     let nodes = chance.between(1, most) - 1;
     let lean = *chance.pick(&[25, 50, 60, 75]);
-    let inside = row(chance, names, nodes, 62, lean);
+    let inside = row(chance, names, nodes, MOST_OPEN - 1, lean);
     element(*chance.pick(names), inside)
 }
 
-/// A nest of mostly one name, sometimes past the 64 that may be open, with small elements beside it on the way in and out.
+/// How deep a nest goes: some dozens mostly, sometimes about as deep as elements may be open, or past it.
+fn depth(chance: &mut Chance) -> usize {
+    match chance.between(0, 19) {
+        0..=1 => *chance.pick(&[MOST_OPEN - 1, MOST_OPEN, MOST_OPEN + 1]),
+        2 => chance.between(MOST_OPEN - 4, MOST_OPEN + 4),
+        3 => chance.between(60, DEEPEST),
+        _ => chance.between(2, 60),
+    }
+}
+
+/// A nest of mostly one name, sometimes past those that may be open, with small elements beside it on the way in and out.
 pub fn nest(chance: &mut Chance, names: &[u16]) -> Events {
-    let deep = if chance.percent(10) { chance.between(63, 66) } else { chance.between(2, 62) };
+    let deep = depth(chance);
     let beside = *chance.pick(&[0, 5, 20]);
     let mut spine = Vec::new();
     let mut events = Vec::new();
@@ -61,7 +75,7 @@ pub fn nest(chance: &mut Chance, names: &[u16]) -> Events {
         }
     }
     while let Some(name) = spine.pop() {
-        if spine.len() < 62 && chance.percent(beside) {
+        if spine.len() + 2 <= MOST_OPEN && chance.percent(beside) {
             events.extend(element(*chance.pick(names), vec![]));
         }
         events.push(Event::Close(name));
@@ -76,7 +90,7 @@ pub fn long(chance: &mut Chance, names: &[u16], events: usize) -> Events {
         let room = (events - 2 - inside.len()) / 2;
         let nodes = chance.between(1, 40).min(room);
         let lean = *chance.pick(&[40, 55, 80]);
-        inside.extend(row(chance, names, nodes, 60, lean));
+        inside.extend(row(chance, names, nodes, MOST_OPEN - 1, lean));
     }
     element(*chance.pick(names), inside)
 }

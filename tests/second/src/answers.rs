@@ -1,5 +1,6 @@
 //! What a run answers, and how it is written.
 
+use crate::lent::Lending;
 use crate::query::{Query, Refused};
 use crate::{literal, moments};
 use std::fmt::Write;
@@ -9,6 +10,15 @@ use std::fmt::Write;
 pub enum Answer {
     Taken(Vec<usize>),
     Refused(u8),
+}
+
+/// Why no session begins.
+#[derive(Clone, Copy, Debug, PartialEq, Eq)]
+pub enum NotBegun {
+    /// Refusal 15.
+    Room,
+    /// Refusal 9 or 10.
+    Query(Refused),
 }
 
 /// An offered event's answer, and how many nodes are held after it.
@@ -45,22 +55,22 @@ pub enum Form {
 }
 
 impl Form {
-    pub fn run(self, query: &Query, events: &[u8], after: AfterRefusal) -> Run {
+    pub fn run(self, query: &Query, events: &[u8], lending: Lending, after: AfterRefusal) -> Run {
         match self {
-            Form::Literal => literal::run(query, events, after),
-            Form::Moments => moments::run(query, events, after),
+            Form::Literal => literal::run(query, events, lending, after),
+            Form::Moments => moments::run(query, events, lending, after),
         }
     }
 }
 
-/// The program's whole output.
+/// The program's whole output. It lends itself enough.
 pub fn program(form: Form, query: &[u8], events: &[u8]) -> String {
     let query = match Query::read(query) {
         Ok(query) => query,
         Err(Refused::Length) => return "refused 9\n".into(),
         Err(Refused::Step(step)) => return format!("refused 10 at {step}\n"),
     };
-    let run = form.run(&query, events, AfterRefusal::Stop);
+    let run = form.run(&query, events, Lending::ENOUGH, AfterRefusal::Stop);
     let mut text = String::new();
     for (number, offered) in (1..).zip(&run.offered) {
         match &offered.answer {
@@ -80,10 +90,14 @@ pub fn program(form: Form, query: &[u8], events: &[u8]) -> String {
 
 /// Every answer of a session to which all events are offered, refused ones among them, a line each:
 /// `4 taken, held 2` or `7 taken, held 0, listed 2 3` or `8 refused 4, held 0`, then `finish opened 5 listed 2` or
-/// `finish refused 8`. A refused query is the one line that the program writes.
-pub fn trace(form: Form, query: &[u8], events: &[u8]) -> String {
+/// `finish refused 8`. A refused query is the one line that the program writes, and too little room at the start is the
+/// line `refused 15`.
+pub fn trace(form: Form, query: &[u8], events: &[u8], lending: Lending) -> String {
+    if let Some(refusal) = lending.at_start().refusal() {
+        return format!("refused {refusal}\n");
+    }
     let Ok(admitted) = Query::read(query) else { return program(form, query, events) };
-    let run = form.run(&admitted, events, AfterRefusal::GoOn);
+    let run = form.run(&admitted, events, lending, AfterRefusal::GoOn);
     let mut text = String::new();
     for (number, Offered { answer, held }) in (1..).zip(&run.offered) {
         match answer {

@@ -1,10 +1,11 @@
 //! Both readings of the whole tree, computed anew after every event by the sentences of document 01.
 
-use crate::answers::{AfterRefusal, Answer, Finish, Offered, Run};
-use crate::query::{Query, Refused};
+use crate::answers::{AfterRefusal, Answer, Finish, NotBegun, Offered, Run};
+use crate::lent::{Lending, Lent, Room};
+use crate::query::Query;
 use crate::records::{self, Event};
 use crate::tree::Tree;
-use crate::{LEAST_BUFFER, MOST_HELD};
+use crate::MOST_HELD;
 
 #[derive(Clone, Copy, Debug, PartialEq, Eq)]
 pub enum Reading {
@@ -17,10 +18,19 @@ pub enum Reading {
 /// One answer for each node; node n at place n, place 0 unused.
 type Nodes = Vec<bool>;
 
-/// Some node that stands in the axis of `step` to `node` meets `step`, `meets` being the nodes that do.
-fn some_meets(query: &Query, tree: &Tree, step: usize, meets: &Nodes, node: usize) -> bool {
-    let axis = query.step(step).axis;
-    (1..=tree.opened()).any(|below| meets[below] && tree.stands_to(axis, below).any(|a| a == node))
+/// The nodes of which "some child (or some descendant, by the axis) meets" the step, `meets` being the nodes that do.
+fn some_meets(query: &Query, tree: &Tree, step: usize, meets: &Nodes) -> Nodes {
+    let mut some = vec![false; tree.opened() + 1];
+    for below in (1..=tree.opened()).filter(|&below| meets[below]) {
+        for node in tree.stands_to(query.step(step).axis, below) {
+            // Found before for another node below it, and with it all that stand above.
+            if some[node] {
+                break;
+            }
+            some[node] = true;
+        }
+    }
+    some
 }
 
 /// For each step, the nodes that pass its name test and have all its predicates met. For a predicate step these are the
@@ -30,11 +40,12 @@ fn fits(query: &Query, tree: &Tree, reading: Reading) -> Vec<Nodes> {
     let mut fits = vec![vec![false; tree.opened() + 1]; query.steps() + 1];
     // A predicate step hangs on an earlier step, so the last step needs no other.
     for step in (1..=query.steps()).rev() {
+        let met = |predicate: usize| some_meets(query, tree, predicate, &fits[predicate]);
+        let predicates: Vec<Nodes> = query.predicates(step).into_iter().map(met).collect();
         for node in 1..=tree.opened() {
             let granted = reading == Reading::Open && tree.is_open(node);
-            let met = |p: &usize| some_meets(query, tree, *p, &fits[*p], node);
             fits[step][node] =
-                query.passes(step, tree.node(node).name) && (granted || query.predicates(step).iter().all(met));
+                query.passes(step, tree.node(node).name) && (granted || predicates.iter().all(|met| met[node]));
         }
     }
     fits
@@ -81,16 +92,14 @@ pub fn verdicts(query: &Query, tree: &Tree) -> Vec<Verdict> {
 
 /// "A node is held if it is not ruled out and it or some earlier node is undecided."
 pub fn held(verdicts: &[Verdict]) -> Vec<usize> {
-    let undecided = |node: usize| verdicts[node - 1] == Verdict::Undecided;
-    let is_held = |&node: &usize| verdicts[node - 1] != Verdict::RuledOut && (1..=node).any(undecided);
-    (1..=verdicts.len()).filter(is_held).collect()
+    let from_undecided = (1..).zip(verdicts).skip_while(|(_, verdict)| **verdict != Verdict::Undecided);
+    from_undecided.filter(|(_, verdict)| **verdict != Verdict::RuledOut).map(|(node, _)| node).collect()
 }
 
 /// The nodes handed out by now: "A certain node with no undecided node before it".
 pub fn handed_out(verdicts: &[Verdict]) -> Vec<usize> {
-    let undecided = |node: usize| verdicts[node - 1] == Verdict::Undecided;
-    let is_out = |&node: &usize| verdicts[node - 1] == Verdict::Certain && !(1..node).any(undecided);
-    (1..=verdicts.len()).filter(is_out).collect()
+    let before_undecided = (1..).zip(verdicts).take_while(|(_, verdict)| **verdict != Verdict::Undecided);
+    before_undecided.filter(|(_, verdict)| **verdict == Verdict::Certain).map(|(node, _)| node).collect()
 }
 
 /// A session fed one event at a time.
@@ -103,8 +112,12 @@ pub struct Session {
 }
 
 impl Session {
-    pub fn begin(query: &[u8]) -> Result<Session, Refused> {
-        Ok(Session::of(Query::read(query)?))
+    /// Room of these lengths is lent.
+    pub fn begin(query: &[u8], room: Room) -> Result<Session, NotBegun> {
+        match room.refusal() {
+            Some(_) => Err(NotBegun::Room),
+            None => Query::read(query).map(Session::of).map_err(NotBegun::Query),
+        }
     }
 
     fn of(query: Query) -> Session {
@@ -124,10 +137,10 @@ impl Session {
         held(&self.verdicts).len()
     }
 
-    /// An event offered with an output buffer of this many bytes.
-    pub fn event(&mut self, record: &[u8], buffer: usize) -> Answer {
-        if buffer < LEAST_BUFFER {
-            return Answer::Refused(1);
+    /// An event to which this much is lent.
+    pub fn event(&mut self, record: &[u8], lent: Lent) -> Answer {
+        if let Some(refusal) = lent.refusal() {
+            return Answer::Refused(refusal);
         }
         let Some(event) = records::event(record) else { return Answer::Refused(2) };
         if let Some(refusal) = self.tree.refusal(event) {
@@ -139,10 +152,10 @@ impl Session {
         if matches!(event, Event::Open(_)) && held(&after).len() > MOST_HELD {
             return Answer::Refused(7);
         }
-        let before = handed_out(&self.verdicts);
-        let now = handed_out(&after).into_iter().filter(|node| !before.contains(node)).collect();
+        let (before, mut all) = (handed_out(&self.verdicts), handed_out(&after));
+        assert!(all.starts_with(&before), "the list only ever grows at its end");
         (self.tree, self.verdicts) = (next, after);
-        Answer::Taken(now)
+        Answer::Taken(all.split_off(before.len()))
     }
 
     pub fn finish(&self) -> Finish {
@@ -154,11 +167,11 @@ impl Session {
 }
 
 /// All events of a file offered in order.
-pub fn run(query: &Query, events: &[u8], after: AfterRefusal) -> Run {
+pub fn run(query: &Query, events: &[u8], lending: Lending, after: AfterRefusal) -> Run {
     let mut session = Session::of(query.clone());
     let mut offered = Vec::new();
-    for record in records::split(events) {
-        let answer = session.event(record, LEAST_BUFFER);
+    for (place, record) in records::split(events).enumerate() {
+        let answer = session.event(record, lending.at_event(place));
         let stop = after == AfterRefusal::Stop && matches!(answer, Answer::Refused(_));
         offered.push(Offered { answer, held: session.held() });
         if stop {

@@ -5,10 +5,12 @@
 //! is ruled out. Both follow from the finished tree of all accepted events, by the sentences of document 01 with "from
 //! when" in place of "is": *and* takes the later moment, *some* the earlier one. Held and handed out follow from these.
 //!
-//! A moment is a number of accepted events: 0 is before all of them, NEVER after all.
+//! A moment is a number of accepted events: 0 is before all of them, NEVER after all. What holds of some node below or
+//! above is passed on from child to parent or from parent to child, so that depth costs nothing.
 
 use crate::answers::{AfterRefusal, Answer, Offered, Run};
-use crate::query::Query;
+use crate::lent::Lending;
+use crate::query::{Axis, Query};
 use crate::records::{self, Event};
 use crate::tree::Tree;
 use crate::MOST_HELD;
@@ -21,10 +23,14 @@ const NEVER: Moment = usize::MAX;
 /// having the moment from which each node does.
 fn some_meets_from(query: &Query, tree: &Tree, step: usize, meets: &[Moment]) -> Vec<Moment> {
     let mut from = vec![NEVER; tree.opened() + 1];
-    for below in (1..=tree.opened()).filter(|&below| meets[below] != NEVER) {
-        for node in tree.stands_to(query.step(step).axis, below) {
-            from[node] = from[node].min(meets[below]);
-        }
+    // A parent has a lower number than its children, so a node's own is known when it is passed on.
+    for node in (1..=tree.opened()).rev() {
+        let passed_on = match query.step(step).axis {
+            Axis::Child => meets[node],
+            Axis::Descendant => meets[node].min(from[node]),
+        };
+        let parent = tree.node(node).parent;
+        from[parent] = from[parent].min(passed_on);
     }
     from
 }
@@ -55,6 +61,34 @@ struct Selected {
 
 const NOT_AT_ALL: Selected = Selected { certain: NEVER, ruled_out: 0 };
 
+impl Selected {
+    /// One of the two.
+    fn or(self, other: Selected) -> Selected {
+        Selected { certain: self.certain.min(other.certain), ruled_out: self.ruled_out.max(other.ruled_out) }
+    }
+}
+
+/// For each node, when one of those to which it stands in the axis is given, `given` saying when each is. The document is
+/// at place 0 and is never given.
+fn some_above(tree: &Tree, axis: Axis, given: &[Selected]) -> Vec<Selected> {
+    let mut above = vec![NOT_AT_ALL];
+    for node in 1..=tree.opened() {
+        let parent = tree.node(node).parent;
+        above.push(match axis {
+            Axis::Child => given[parent],
+            Axis::Descendant => given[parent].or(above[parent]),
+        });
+    }
+    above
+}
+
+/// For each node, when it stands in the axis to the document.
+fn below_document(tree: &Tree, axis: Axis) -> Vec<Selected> {
+    let always = Selected { certain: 0, ruled_out: NEVER };
+    let stands = |node| if node > 0 && tree.stands_to_document(axis, node) { always } else { NOT_AT_ALL };
+    (0..=tree.opened()).map(stands).collect()
+}
+
 /// For each node (node n at place n - 1), when it is selected in either reading.
 fn selected(query: &Query, tree: &Tree) -> Vec<Selected> {
     let fits = fits_from(query, tree);
@@ -62,19 +96,15 @@ fn selected(query: &Query, tree: &Tree) -> Vec<Selected> {
     let mut before: Option<Vec<Selected>> = None;
     for step in query.main_path() {
         let axis = query.step(step).axis;
-        let stands = |node: usize| match &before {
-            None if tree.stands_to_document(axis, node) => Selected { certain: 0, ruled_out: NEVER },
-            None => NOT_AT_ALL,
-            Some(given) => tree.stands_to(axis, node).map(|a| given[a]).fold(NOT_AT_ALL, |some, one| Selected {
-                certain: some.certain.min(one.certain),
-                ruled_out: some.ruled_out.max(one.ruled_out),
-            }),
+        let stands = match &before {
+            None => below_document(tree, axis),
+            Some(given) => some_above(tree, axis, given),
         };
         let given = |node: usize| {
             if node == 0 || !query.passes(step, tree.node(node).name) {
                 return NOT_AT_ALL;
             }
-            let (from, above) = (fits[step][node], stands(node));
+            let (from, above) = (fits[step][node], stands[node]);
             // Predicates that are never met are granted until the node is closed.
             let until = if from == NEVER { tree.node(node).closed.unwrap_or(NEVER) } else { NEVER };
             Selected { certain: from.max(above.certain), ruled_out: until.min(above.ruled_out) }
@@ -124,16 +154,16 @@ fn story(query: &Query, tree: &Tree) -> Story {
 }
 
 /// The tree of the events that are accepted when those at the places `full` get refusal 7, and each event's refusal.
-fn accepted(events: &[u8], full: &HashSet<usize>, after: AfterRefusal) -> (Tree, Vec<Option<u8>>) {
+fn accepted(events: &[u8], lending: Lending, full: &HashSet<usize>, after: AfterRefusal) -> (Tree, Vec<Option<u8>>) {
     let (mut tree, mut refusals) = (Tree::default(), Vec::new());
     for (place, record) in records::split(events).enumerate() {
-        let refusal = match records::event(record) {
+        let refusal = lending.at_event(place).refusal().or_else(|| match records::event(record) {
             None => Some(2),
             Some(event) => tree.refusal(event).or_else(|| full.contains(&place).then_some(7)).or_else(|| {
                 tree.take(event);
                 None
             }),
-        };
+        });
         refusals.push(refusal);
         if refusal.is_some() && after == AfterRefusal::Stop {
             break;
@@ -142,7 +172,7 @@ fn accepted(events: &[u8], full: &HashSet<usize>, after: AfterRefusal) -> (Tree,
     (tree, refusals)
 }
 
-/// The place of the first event accepted so far that is "an open after which more than 128 nodes would be held".
+/// The place of the first event accepted so far that is "an open after which more than 1,024 nodes would be held".
 fn first_full(events: &[u8], refusals: &[Option<u8>], held: &[usize]) -> Option<usize> {
     let taken = records::split(events).zip(refusals).enumerate().filter(|(_, (_, refusal))| refusal.is_none());
     let mut full = taken
@@ -152,10 +182,10 @@ fn first_full(events: &[u8], refusals: &[Option<u8>], held: &[usize]) -> Option<
 }
 
 /// All events of a file offered in order.
-pub fn run(query: &Query, events: &[u8], after: AfterRefusal) -> Run {
+pub fn run(query: &Query, events: &[u8], lending: Lending, after: AfterRefusal) -> Run {
     let mut full = HashSet::new();
     loop {
-        let (tree, refusals) = accepted(events, &full, after);
+        let (tree, refusals) = accepted(events, lending, &full, after);
         let story = story(query, &tree);
         // What comes after an event changes nothing at it, so the first such open is refused whatever follows.
         match first_full(events, &refusals, &story.held) {

@@ -1,5 +1,7 @@
 //! Queries: the check (refusals 9 and 10) and the steps by their numbers.
 
+use crate::MOST_STEPS;
+
 #[derive(Clone, Copy, Debug, PartialEq, Eq)]
 pub enum Axis {
     Child,
@@ -34,7 +36,7 @@ pub enum Refused {
 impl Query {
     /// The query check.
     pub fn read(bytes: &[u8]) -> Result<Query, Refused> {
-        if bytes.is_empty() || !bytes.len().is_multiple_of(8) || bytes.len() > 256 {
+        if bytes.is_empty() || !bytes.len().is_multiple_of(8) || bytes.len() > 8 * MOST_STEPS {
             return Err(Refused::Length);
         }
         let mut steps: Vec<Step> = Vec::new();

@@ -1,10 +1,17 @@
 //! The P and R cases of document 01, for both forms.
 
-use second::answers::{program, trace, AfterRefusal, Answer, Form};
+use second::answers::{program, trace, AfterRefusal, Answer, Form, NotBegun};
+use second::lent::{self, Lending, Lent, Room};
 use second::literal::{Session, Verdict};
 use second::query::Axis::{Child, Descendant};
 use second::query::{write, Axis, Query, Refused, Step};
 use second::records::{record, Event};
+
+/// The numbers of document 01, once more by themselves.
+const OPEN: usize = 256;
+const HELD: usize = 1_024;
+const ROOM: Room = Room { elements: 16_384, nodes: 32_768 };
+const ENOUGH: Lent = Lent { buffer: 4_100, room: ROOM };
 
 const NAMES: [&str; 11] = ["a", "b", "c", "d", "r", "book", "section", "table", "cell", "position", "author"];
 
@@ -54,7 +61,8 @@ fn bytes(events: &[Event]) -> Vec<u8> {
 fn listed(steps: &[Step], tree: &str) -> Vec<(usize, Vec<usize>)> {
     let query = Query::read(&write(steps)).expect("an admitted query");
     let stream = bytes(&events(tree));
-    let [literal, moments] = [Form::Literal, Form::Moments].map(|f| f.run(&query, &stream, AfterRefusal::GoOn));
+    let [literal, moments] =
+        [Form::Literal, Form::Moments].map(|f| f.run(&query, &stream, Lending::ENOUGH, AfterRefusal::GoOn));
     assert_eq!(literal, moments);
     assert!(literal.finish.is_ok());
     let nodes = literal.offered.into_iter().map(|o| match o.answer {
@@ -64,12 +72,22 @@ fn listed(steps: &[Step], tree: &str) -> Vec<(usize, Vec<usize>)> {
     (1..).zip(nodes).filter(|(_, nodes)| !nodes.is_empty()).collect()
 }
 
+/// A session to which enough is lent.
+fn begin(query: &[u8]) -> Session {
+    Session::begin(query, ROOM).expect("an admitted query")
+}
+
+/// An event to which enough is lent.
+fn offer(session: &mut Session, record: &[u8]) -> Answer {
+    session.event(record, ENOUGH)
+}
+
 /// The verdict on a node after each event from its opening on, with the event's number.
 fn verdicts(steps: &[Step], tree: &str, node: usize) -> Vec<(usize, Verdict)> {
-    let mut session = Session::begin(&write(steps)).expect("an admitted query");
+    let mut session = begin(&write(steps));
     let mut all = Vec::new();
     for (number, event) in (1..).zip(events(tree)) {
-        assert!(matches!(session.event(&record(event), 516), Answer::Taken(_)));
+        assert!(matches!(offer(&mut session, &record(event)), Answer::Taken(_)));
         all.extend(session.verdicts().get(node - 1).map(|v| (number, *v)));
     }
     all
@@ -163,9 +181,9 @@ fn p10_the_document_element_descends_from_the_document() {
 
 #[test]
 fn p11_a_fresh_session() {
-    let mut session = Session::begin(&write(&[main_step(Child, 0, "r")])).unwrap();
+    let mut session = begin(&write(&[main_step(Child, 0, "r")]));
     assert_eq!(session.finish(), Err(8));
-    assert_eq!(session.event(&record(Event::Close(number("r"))), 516), Answer::Refused(4));
+    assert_eq!(offer(&mut session, &record(Event::Close(number("r")))), Answer::Refused(4));
 }
 
 #[test]
@@ -173,7 +191,7 @@ fn p12_a_refused_close_changes_nothing() {
     let [r, d] = [number("r"), number("d")];
     let stream = bytes(&[Event::Open(r), Event::Close(d), Event::Close(r)]);
     for form in [Form::Literal, Form::Moments] {
-        let text = trace(form, &write(&[main_step(Child, 0, "r")]), &stream);
+        let text = trace(form, &write(&[main_step(Child, 0, "r")]), &stream, Lending::ENOUGH);
         let lines = ["1 taken, held 0, listed 1", "2 refused 4, held 0", "3 taken, held 0", "finish opened 1 listed 1"];
         assert_eq!(text.lines().collect::<Vec<_>>(), lines);
     }
@@ -190,47 +208,99 @@ fn many(d: usize) -> String {
 }
 
 #[test]
-fn r1_129_nodes_go_at_once() {
-    assert_eq!(listed(&waiting_for_c(), &many(128)), [(258, (2..=130).collect())]);
+fn r1_all_held_nodes_and_the_new_one_go_at_once() {
+    let all: Vec<usize> = (2..=1_026).collect();
+    assert_eq!(all.len(), 1_025);
+    assert_eq!(listed(&waiting_for_c(), &many(HELD)), [(2_050, all)]);
 }
 
 #[test]
-fn r2_the_129th_held_node_is_refused() {
+fn r2_one_held_node_more_is_refused() {
     for form in [Form::Literal, Form::Moments] {
-        assert_eq!(program(form, &write(&waiting_for_c()), &bytes(&events(&many(129)))), "refused 7 at 258\n");
+        assert_eq!(program(form, &write(&waiting_for_c()), &bytes(&events(&many(HELD + 1)))), "refused 7 at 2050\n");
     }
 }
 
 #[test]
 fn r3_limits_of_depth_query_and_buffer() {
     let r = number("r");
-    let nest = bytes(&[Event::Open(r); 65]);
+    let nest = bytes(&[Event::Open(r); OPEN + 1]);
     for form in [Form::Literal, Form::Moments] {
         let query = write(&[main_step(Child, 0, "d")]);
-        assert_eq!(program(form, &query, &nest), "refused 5 at 65\n");
-        assert_eq!(program(form, &query, &nest[..64 * 8]), "refused 8 at 64\n");
+        assert_eq!(program(form, &query, &nest), "refused 5 at 257\n");
+        assert_eq!(program(form, &query, &nest[..OPEN * 8]), "refused 8 at 256\n");
     }
     let steps = |n: usize| write(&(0..n).map(|s| main_step(Child, s, "r")).collect::<Vec<_>>());
     assert!(Query::read(&steps(32)).is_ok());
     assert_eq!(Query::read(&steps(33)), Err(Refused::Length));
-    let mut session = Session::begin(&steps(32)).unwrap();
-    assert_eq!(session.event(&record(Event::Open(r)), 515), Answer::Refused(1));
+    let mut session = begin(&steps(32));
+    assert_eq!(session.event(&record(Event::Open(r)), Lent { buffer: 4_099, room: ROOM }), Answer::Refused(1));
     assert_eq!(session.tree().opened(), 0);
-    assert_eq!(session.event(&record(Event::Open(r)), 516), Answer::Taken(vec![]));
+    assert_eq!(session.event(&record(Event::Open(r)), ENOUGH), Answer::Taken(vec![]));
+}
+
+/// Room that is too small, by one byte or by all.
+const TOO_SMALL: [Room; 4] = [
+    Room { elements: 16_383, ..ROOM },
+    Room { nodes: 32_767, ..ROOM },
+    Room { elements: 0, ..ROOM },
+    Room { elements: 0, nodes: 0 },
+];
+
+#[test]
+fn room_that_is_too_small_gets_15() {
+    let [good, long, bad] = [write(&[main_step(Child, 0, "r")]), vec![0; 264], vec![0; 8]];
+    let mut session = begin(&good);
+    let [opens, closes] = [Event::Open(number("r")), Event::Close(number("r"))].map(record);
+    for room in TOO_SMALL {
+        // At the start before 9 and 10.
+        for query in [&good, &long, &bad] {
+            assert_eq!(Session::begin(query, room).err(), Some(NotBegun::Room));
+        }
+        // At an event after 1 and before all others; and it stops nothing.
+        assert_eq!(session.event(&opens, Lent { buffer: 4_099, room }), Answer::Refused(1));
+        for record in [&opens[..], &closes, &opens[..7], &[]] {
+            assert_eq!(session.event(record, Lent { room, ..ENOUGH }), Answer::Refused(15));
+        }
+        assert_eq!((session.tree().opened(), session.finish()), (0, Err(8)));
+    }
+    assert_eq!(Session::begin(&long, ROOM).err(), Some(NotBegun::Query(Refused::Length)));
+    assert_eq!(Session::begin(&bad, ROOM).err(), Some(NotBegun::Query(Refused::Step(1))));
+    let more = Lent { buffer: 5_000, room: Room { elements: 16_385, nodes: 40_000 } };
+    assert_eq!(session.event(&opens, more), Answer::Taken(vec![1]));
+    assert_eq!(offer(&mut session, &closes), Answer::Taken(vec![]));
+    assert_eq!(session.event(&closes, Lent { room: TOO_SMALL[0], ..ENOUGH }), Answer::Refused(15));
+    assert_eq!(session.finish(), Ok((1, 1)));
+}
+
+#[test]
+fn a_file_says_what_is_lent() {
+    let query = write(&[main_step(Child, 0, "r")]);
+    let stream = bytes(&events("r(d)"));
+    let small = Lent { room: TOO_SMALL[1], ..ENOUGH };
+    let lent = |calls: &[Lent]| calls.iter().flat_map(|call| lent::record(*call)).collect::<Vec<u8>>();
+    let some = lent(&[Lent { buffer: 0, ..ENOUGH }, small, Lent { buffer: 4_099, ..small }, small]);
+    for form in [Form::Literal, Form::Moments] {
+        let text = trace(form, &query, &stream, Lending(&some));
+        let lines = ["1 refused 15, held 0", "2 refused 1, held 0", "3 refused 15, held 0", "4 refused 4, held 0"];
+        assert_eq!(text.lines().collect::<Vec<_>>(), [&lines[..], &["finish refused 8"]].concat());
+        assert_eq!(trace(form, &[], &stream, Lending(&lent(&[small]))), "refused 15\n");
+        assert_eq!(trace(form, &[], &stream, Lending(&lent(&[ENOUGH]))), "refused 9\n");
+    }
 }
 
 #[test]
 fn the_lowest_refusal_is_given() {
     let r = number("r");
-    let mut session = Session::begin(&write(&[main_step(Child, 0, "d")])).unwrap();
-    assert_eq!(session.event(&[], 0), Answer::Refused(1));
+    let mut session = begin(&write(&[main_step(Child, 0, "d")]));
+    assert_eq!(session.event(&[], Lent { buffer: 0, room: ROOM }), Answer::Refused(1));
     for e in [Event::Open(r), Event::Close(r)] {
-        assert_eq!(session.event(&record(e), 516), Answer::Taken(vec![]));
+        assert_eq!(offer(&mut session, &record(e)), Answer::Taken(vec![]));
     }
-    assert_eq!(session.event(&[1, 0, 0, 5, 0, 0, 0], 516), Answer::Refused(2));
-    assert_eq!(session.event(&[1, 0, 0, 0, 0, 0, 0, 0], 516), Answer::Refused(2));
-    assert_eq!(session.event(&record(Event::Open(r)), 516), Answer::Refused(3));
-    assert_eq!(session.event(&record(Event::Close(number("d"))), 516), Answer::Refused(3));
+    assert_eq!(offer(&mut session, &[1, 0, 0, 5, 0, 0, 0]), Answer::Refused(2));
+    assert_eq!(offer(&mut session, &[1, 0, 0, 0, 0, 0, 0, 0]), Answer::Refused(2));
+    assert_eq!(offer(&mut session, &record(Event::Open(r))), Answer::Refused(3));
+    assert_eq!(offer(&mut session, &record(Event::Close(number("d")))), Answer::Refused(3));
     assert_eq!(session.finish(), Ok((1, 0)));
 }
 

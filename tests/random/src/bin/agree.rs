@@ -6,7 +6,10 @@
 
 use random::asked::seed_and_cases;
 use random::cases::{cases, Kind};
+use random::chance::Chance;
+use random::lending::lending;
 use second::answers::{AfterRefusal, Answer, Form, Run};
+use second::lent::Lending;
 use second::query::Query;
 use std::collections::BTreeMap;
 
@@ -40,12 +43,16 @@ impl Tally {
 fn main() {
     let (seed, wanted) = seed_and_cases("agree [--seed N] [--cases N]");
     let mut tallies: BTreeMap<Kind, Tally> = BTreeMap::new();
+    let mut chance = Chance::new(seed, 0);
     let small = cases(seed).filter(|c| c.kind != Kind::Long && Query::read(c.seen().0).is_ok());
     for (number, case) in (1..).zip(small.take(wanted)) {
         let (query, events) = case.seen();
         let query = Query::read(query).expect("refused queries are left out");
-        for after in [AfterRefusal::Stop, AfterRefusal::GoOn] {
-            let [literal, moments] = [Form::Literal, Form::Moments].map(|form| form.run(&query, events, after));
+        let (again, lent) = lending(&mut chance, events);
+        let runs = [(AfterRefusal::Stop, events, Lending::ENOUGH), (AfterRefusal::GoOn, &again[..], Lending(&lent))];
+        for (after, events, lending) in runs {
+            let [literal, moments] =
+                [Form::Literal, Form::Moments].map(|form| form.run(&query, events, lending, after));
             if literal != moments {
                 println!("case {number} of seed {seed} ({:?}, {after:?}): the two forms differ", case.kind);
                 println!("{query:?}\n{events:?}");

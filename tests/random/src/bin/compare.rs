@@ -1,24 +1,29 @@
 //! `compare`: a program's output compared with the second program's on random cases.
 //!
-//!     compare [--seed N] [--cases N] [--only KIND,...] [--trace] [--keep FOLDER] PROGRAM [ARGUMENT...]
+//!     compare [--seed N] [--cases N] [--only KIND,...] [--trace [--lent]] [--keep FOLDER] PROGRAM [ARGUMENT...]
 //!
 //! The program is run in a folder with query.rec and events.rec, and must write to its standard output exactly what
 //! `second` writes (with --trace, what `second --trace` writes). At the first difference the case is kept and shown.
 
 use random::cases::{cases, Case, Kind};
+use random::chance::Chance;
 use second::answers::{program, trace, Form};
+use second::lent::Lending;
 use std::collections::BTreeMap;
 use std::fs::{self, File};
 use std::path::{Path, PathBuf};
 use std::process::{exit, Command, Stdio};
 use std::time::{Duration, Instant};
 
-const USAGE: &str = "compare [--seed N] [--cases N] [--only KIND,...] [--trace] [--keep FOLDER] PROGRAM [ARGUMENT...]
+const USAGE: &str = "\
+compare [--seed N] [--cases N] [--only KIND,...] [--trace [--lent]] [--keep FOLDER] PROGRAM [ARGUMENT...]
 runs PROGRAM in a folder with query.rec and events.rec, and compares what it writes with the definition's answer
   --seed N       which cases (1)
   --cases N      how many (5000)
-  --only KINDS   only these: Small, Wide, Nest, Brim, Cut, DamagedEvents, DamagedQuery, Truncated, Absent, Noise, Long
+  --only KINDS   only these: Small, Wide, Large, Nest, Many, Brim, Cut, DamagedEvents, DamagedQuery, Truncated, Absent,
+                 Noise, Long
   --trace        PROGRAM writes the answer to every event, as `second --trace` does
+  --lent         with --trace: lent.rec stands beside the two, and says what PROGRAM lends to each call
   --keep FOLDER  where a case that differs is kept (target/differs)";
 
 /// A program that has not ended by then never will.
@@ -29,13 +34,14 @@ struct Wish {
     cases: usize,
     only: Vec<Kind>,
     traced: bool,
+    lent: bool,
     keep: PathBuf,
     program: Vec<String>,
 }
 
 fn wish() -> Option<Wish> {
     let (only, keep) = (Kind::ALL.to_vec(), "target/differs".into());
-    let mut wish = Wish { seed: 1, cases: 5_000, only, traced: false, keep, program: vec![] };
+    let mut wish = Wish { seed: 1, cases: 5_000, only, traced: false, lent: false, keep, program: vec![] };
     let mut arguments = std::env::args().skip(1);
     while let Some(argument) = arguments.next() {
         match argument.as_str() {
@@ -43,6 +49,7 @@ fn wish() -> Option<Wish> {
             "--cases" => wish.cases = arguments.next()?.parse().ok()?,
             "--only" => wish.only = arguments.next()?.split(',').map(kind).collect::<Option<_>>()?,
             "--trace" => wish.traced = true,
+            "--lent" => wish.lent = true,
             "--keep" => wish.keep = arguments.next()?.into(),
             other if other.starts_with('-') => return None,
             _ => {
@@ -74,13 +81,13 @@ fn must_write(case: &mut Case, traced: bool) -> String {
         events.truncate(8 * (at + 40));
     }
     let (query, events) = case.seen();
-    trace(Form::Moments, query, events)
+    trace(Form::Moments, query, events, Lending(case.lent.as_deref().unwrap_or(&[])))
 }
 
 /// Writes the case's files into the folder; a missing one is taken away.
 fn lay_out(case: &Case, folder: &Path) -> std::io::Result<()> {
     fs::create_dir_all(folder)?;
-    for (name, bytes) in [("query.rec", &case.query), ("events.rec", &case.events)] {
+    for (name, bytes) in [("query.rec", &case.query), ("events.rec", &case.events), ("lent.rec", &case.lent)] {
         match bytes {
             Some(bytes) => fs::write(folder.join(name), bytes)?,
             None => fs::remove_file(folder.join(name)).or_else(|e| match e.kind() {
@@ -134,6 +141,9 @@ fn main() -> std::io::Result<()> {
     let mut endings: BTreeMap<String, usize> = BTreeMap::new();
     let wanted = cases(wish.seed).filter(|c| wish.only.contains(&c.kind)).take(wish.cases);
     for (number, mut case) in (1..).zip(wanted) {
+        if wish.lent {
+            case = case.lent_to(&mut Chance::new(!wish.seed, number));
+        }
         let must = must_write(&mut case, wish.traced);
         lay_out(&case, &folder)?;
         let came = answer(&wish.program, &folder)?;
