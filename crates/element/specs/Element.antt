@@ -1,22 +1,19 @@
 -- The open elements as they stand in lent bytes: a record of 16 numbers for each.
 --
---   mostOpen            how many records there are
 --   shape               an element's record: its frame (crate engine, Quick) is its first numbers, one for each field
---   elementsRoom        how many bytes the records take
 --   Elements            all records: their frames, used or not, and their spare numbers;  elementsIn bs: those in bytes
 --   frameAt E i         the frame of record i
 --   raisedIn, refreshedIn, openedIn      what `raise`, `refresh` and `open` do, to record i alone
 --
+-- There are as many records as elements may be open (crate meaning, Limits).
 -- Assumes nothing. NOT here: how many of the records are in use (crate step).
 pub mod Laws
 use Prim.Native.Nat.{ℕ}
 use mathlib.Core.List.{List, [], _∷_}
 use lib.ListN.{getD}
+use Rattle.meaning.specs.Limits.{depthLimit}
 use Rattle.engine.specs.Quick.{Frame}
-use Rattle.words.specs.Records.{Shape, Records, setAt, room, blank, recordsIn, at}
-
-unfoldable pub mostOpen : ℕ
-mostOpen = 256
+use Rattle.words.specs.Records.{Shape, Records, setAt, blank, recordsIn, at}
 
 abbrev pub frameOf : (ℕ → ℕ) → Frame
 frameOf r = record { name = r 0; pass = r 1; below = r 2; met = r 3; sure = r 4; poss = r 5 }
@@ -25,10 +22,7 @@ abbrev pub fieldOf : ℕ → Frame → ℕ
 fieldOf g f = getD (f .name ∷ f .pass ∷ f .below ∷ f .met ∷ f .sure ∷ f .poss ∷ []) g 0
 
 abbrev pub shape : Shape Frame
-shape = record { count = mostOpen; wide = 16; fields = 6; make = frameOf; field = fieldOf }
-
-unfoldable pub elementsRoom : ℕ
-elementsRoom = room shape
+shape = record { count = depthLimit; wide = 16; fields = 6; make = frameOf; field = fieldOf }
 
 abbrev pub Elements : Type 0
 Elements = Records Frame

@@ -4,10 +4,11 @@ ghost use mathlib.Core.Path.{_≡_};
 ghost use Prim.Native.Nat.{_+_, _≤_, _<_};
 ghost use lib.ListN.{length};
 ghost use Rattle.meaning.specs.Name.{passes};
+ghost use Rattle.meaning.specs.Limits.{depthLimit, elementsNeeded};
 ghost use Rattle.sets.specs.Set.{without};
 ghost use Rattle.plan.specs.Plan.{named, meets, lift, turn, lastGiven};
 ghost use Rattle.engine.specs.Quick.{sureAt, possAt};
-ghost use Rattle.element.specs.Element.{mostOpen, elementsRoom, elementsIn};
+ghost use Rattle.element.specs.Element.{elementsIn};
 ghost use Rattle.plan_bytes.specs.Kept.{planRoom, keptIn};
 ghost use Rattle.elements.specs.Elements.{risenIn, refreshedFrom, pushedIn};
 
@@ -91,7 +92,7 @@ pub fn last_given(m: u32, ready: u32) -> bool
 
 // Whose turn it is in the content of the element at this level, in the sure reading.
 pub fn sure_at(kept: &[u8], elements: &[u8], level: usize) -> u32
-    requires { ⌜ (length (now kept) ≡ planRoom) × ((length (now elements) ≡ elementsRoom) × (level ≤ mostOpen)) ⌝ }
+    requires { ⌜ (length (now kept) ≡ planRoom) × ((length (now elements) ≡ elementsNeeded) × (level ≤ depthLimit)) ⌝ }
     ensures { λ r. ⌜ r ≡ sureAt (keptIn (now (kept .entry))) (elementsIn (now (elements .entry)) .list) level ⌝ }
 {
     if level == 0 {
@@ -102,7 +103,7 @@ pub fn sure_at(kept: &[u8], elements: &[u8], level: usize) -> u32
 
 // The same in the open reading.
 pub fn possible_at(kept: &[u8], elements: &[u8], level: usize) -> u32
-    requires { ⌜ (length (now kept) ≡ planRoom) × ((length (now elements) ≡ elementsRoom) × (level ≤ mostOpen)) ⌝ }
+    requires { ⌜ (length (now kept) ≡ planRoom) × ((length (now elements) ≡ elementsNeeded) × (level ≤ depthLimit)) ⌝ }
     ensures { λ r. ⌜ r ≡ possAt (keptIn (now (kept .entry))) (elementsIn (now (elements .entry)) .list) level ⌝ }
 {
     if level == 0 {
@@ -113,7 +114,7 @@ pub fn possible_at(kept: &[u8], elements: &[u8], level: usize) -> u32
 
 // `first` rises from a new element under `depth` open ones while it is news. Returns how many of them stayed as they were.
 fn rise(kept: &[u8], elements: &mut [u8], depth: usize, first: u32) -> usize
-    requires { ⌜ (length (now kept) ≡ planRoom) × ((length (now elements) ≡ elementsRoom) × (depth ≤ mostOpen)) ⌝ }
+    requires { ⌜ (length (now kept) ≡ planRoom) × ((length (now elements) ≡ elementsNeeded) × (depth ≤ depthLimit)) ⌝ }
     ensures { λ r. ⌜ record { top = r; elements = elementsIn (now (elements .exit)) }
         ≡ risenIn (keptIn (now (kept .entry))) first depth (elementsIn (now (elements .entry))) ⌝ }
     ensures { λ r. ⌜ r ≤ depth ⌝ }
@@ -138,7 +139,7 @@ fn rise(kept: &[u8], elements: &mut [u8], depth: usize, first: u32) -> usize
 
 // `sure` of the elements from `from` to `to`, each by what is ready around it.
 fn refresh(kept: &[u8], elements: &mut [u8], ready: u32, from: usize, to: usize)
-    requires { ⌜ (length (now kept) ≡ planRoom) × ((length (now elements) ≡ elementsRoom) × ((from ≤ to) × (to ≤ mostOpen))) ⌝ }
+    requires { ⌜ (length (now kept) ≡ planRoom) × ((length (now elements) ≡ elementsNeeded) × ((from ≤ to) × (to ≤ depthLimit))) ⌝ }
     ensures { λ r. ⌜ elementsIn (now (elements .exit)) ≡ refreshedFrom (keptIn (now (kept .entry))) ready from to (elementsIn (now (elements .entry))) ⌝ }
 {
     let mut around = ready;
@@ -153,7 +154,7 @@ fn refresh(kept: &[u8], elements: &mut [u8], ready: u32, from: usize, to: usize)
 
 // A new innermost element named `x`, which passes the name tests of `pass`, under `depth` open ones. Returns how many of them stayed as they were.
 pub fn push(kept: &[u8], elements: &mut [u8], x: u32, pass: u32, depth: usize) -> usize
-    requires { ⌜ (length (now kept) ≡ planRoom) × ((length (now elements) ≡ elementsRoom) × (depth < mostOpen)) ⌝ }
+    requires { ⌜ (length (now kept) ≡ planRoom) × ((length (now elements) ≡ elementsNeeded) × (depth < depthLimit)) ⌝ }
     requires { ⌜ pass ≡ named (keptIn (now kept)) x ⌝ }
     ensures { λ r. ⌜ record { top = r; elements = elementsIn (now (elements .exit)) }
         ≡ pushedIn (keptIn (now (kept .entry))) x depth (elementsIn (now (elements .entry))) ⌝ }

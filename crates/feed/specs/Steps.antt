@@ -17,13 +17,14 @@ use lib.Dec.{eqb}
 use lib.ListN.{length}
 use Rattle.choice.specs.Pick.{pick}
 use Rattle.meaning.specs.Record.{eventOf}
+use Rattle.meaning.specs.Limits.{elementsNeeded, nodesNeeded}
 use Rattle.records.specs.Read.{shown}
 use Rattle.plan.specs.Plan.{Plan}
 use Rattle.words.specs.Records.{laid}
 use Rattle.element.specs.Element as element
-use Rattle.element.specs.Element.{elementsRoom, elementsIn}
+use Rattle.element.specs.Element.{elementsIn}
 use Rattle.node.specs.Node as node
-use Rattle.node.specs.Node.{nodesRoom, queueIn}
+use Rattle.node.specs.Node.{queueIn}
 use Rattle.numbers.specs.Numbers.{Numbers}
 use Rattle.step.specs.Step.{After, step}
 use Rattle.feed.specs.declared.Fed as struct
@@ -52,8 +53,8 @@ stepAt P s bytes out =
     cameTo s out (step P (shown (eventOf bytes)) (s .numbers) (elementsIn (s .elements)) (queueIn (s .nodes)) out)
 
 pub record Whole (s : Seat) : Type 0 where
-  pub elements : length (s .elements) ≡ elementsRoom
-  pub nodes : length (s .nodes) ≡ nodesRoom
+  pub elements : length (s .elements) ≡ elementsNeeded
+  pub nodes : length (s .nodes) ≡ nodesNeeded
   pub said : s .numbers .ended ≤ 1
 
 abbrev pub FeedGives : Plan → Seat → List ℕ → List ℕ → struct.Fed → Seat → List ℕ → Type 0

@@ -3,8 +3,7 @@ ghost use mathlib.Core.Path.{_≡_};
 ghost use mathlib.Core.Bool.{true};
 ghost use Prim.Native.Nat.{_*_, _/_, _≤_};
 ghost use lib.ListN.{length};
-ghost use Rattle.element.specs.Element.{elementsRoom};
-ghost use Rattle.node.specs.Node.{nodesRoom};
+ghost use Rattle.meaning.specs.Limits.{elementsNeeded, nodesNeeded};
 ghost use Rattle.numbers.specs.Numbers.{numbersRoom, numbersIn};
 ghost use Rattle.plan_bytes.specs.Kept.{planRoom, keptIn};
 ghost use Rattle.feed.specs.Fed.{goesOn};
@@ -44,7 +43,7 @@ pub fn feed(
     out: &mut [u8],
 ) -> Fed
     requires { ⌜ (length (now kept) ≡ planRoom) × (length (now numbers) ≡ numbersRoom) ⌝ }
-    requires { ⌜ (length (now elements) ≡ elementsRoom) × (length (now nodes) ≡ nodesRoom) ⌝ }
+    requires { ⌜ (length (now elements) ≡ elementsNeeded) × (length (now nodes) ≡ nodesNeeded) ⌝ }
     ensures { λ r. ⌜ FeedGives (keptIn (now (kept .entry)))
         (seat (numbersIn (now (numbers .entry))) (now (elements .entry)) (now (nodes .entry))) (now (events .entry)) (now (out .entry)) r
         (seat (numbersIn (now (numbers .exit))) (now (elements .exit)) (now (nodes .exit))) (now (out .exit)) ⌝ }

@@ -1,22 +1,19 @@
 -- The waiting nodes as they stand in lent bytes: a record of 8 numbers for each.
 --
---   mostHeld            how many records there are
 --   shape               a node's record: its waiting node (crate engine, Quick) is its first numbers, one for each field
---   nodesRoom           how many bytes the records take
 --   Queue               all records: their waiting nodes, used or not, and their spare numbers;  queueIn bs: those in bytes
 --   nodeAt N i          the waiting node of record i
 --   wroteIn             what `write` does, to record i alone
 --
+-- There are as many records as nodes may be held (crate meaning, Limits).
 -- Assumes nothing. NOT here: how many of the records are in use (crate step).
 pub mod Laws
 use Prim.Native.Nat.{ℕ}
 use mathlib.Core.List.{List, [], _∷_}
 use lib.ListN.{getD}
+use Rattle.meaning.specs.Limits.{heldLimit}
 use Rattle.engine.specs.Quick.{Waiting}
-use Rattle.words.specs.Records.{Shape, Records, setAt, room, blank, recordsIn, at}
-
-unfoldable pub mostHeld : ℕ
-mostHeld = 1024
+use Rattle.words.specs.Records.{Shape, Records, setAt, blank, recordsIn, at}
 
 abbrev pub waitingOf : (ℕ → ℕ) → Waiting
 waitingOf r = record { node = r 0; level = r 1; need = r 2 }
@@ -25,10 +22,7 @@ abbrev pub fieldOf : ℕ → Waiting → ℕ
 fieldOf g w = getD (w .node ∷ w .level ∷ w .need ∷ []) g 0
 
 abbrev pub shape : Shape Waiting
-shape = record { count = mostHeld; wide = 8; fields = 3; make = waitingOf; field = fieldOf }
-
-unfoldable pub nodesRoom : ℕ
-nodesRoom = room shape
+shape = record { count = heldLimit; wide = 8; fields = 3; make = waitingOf; field = fieldOf }
 
 abbrev pub Queue : Type 0
 Queue = Records Waiting

@@ -4,11 +4,12 @@ ghost use mathlib.Core.Bool.{true, false};
 ghost use Prim.Native.Nat.{_+_, _*_, _≤_, _<_};
 ghost use lib.Dec.{eqb};
 ghost use lib.ListN.{length, take, drop};
+ghost use Rattle.meaning.specs.Limits.{depthLimit, heldLimit, elementsNeeded, nodesNeeded};
 ghost use Rattle.records.specs.Write.{buffer};
 ghost use Rattle.plan.specs.Plan.{up};
 ghost use Rattle.engine.specs.Quick.{certainIf, certain, counted, wentIf, cut};
-ghost use Rattle.element.specs.Element.{mostOpen, elementsRoom, elementsIn};
-ghost use Rattle.node.specs.Node.{mostHeld, nodesRoom, queueIn};
+ghost use Rattle.element.specs.Element.{elementsIn};
+ghost use Rattle.node.specs.Node.{queueIn};
 ghost use Rattle.plan_bytes.specs.Kept.{planRoom, keptIn};
 ghost use Rattle.nodes.specs.Nodes.{levelOf, numbers, keptIf, movedFrom, shifted, handedOut, joined};
 
@@ -34,7 +35,7 @@ fn up(kept: &[u8], m: u32, need: u32) -> u32
 
 // Whether a node that waits with this need at this level, of the first `depth` elements, is certain.
 fn certain(kept: &[u8], elements: &[u8], depth: usize, level: u32, need: u32) -> bool
-    requires { ⌜ (length (now kept) ≡ planRoom) × ((length (now elements) ≡ elementsRoom) × (depth ≤ mostOpen)) ⌝ }
+    requires { ⌜ (length (now kept) ≡ planRoom) × ((length (now elements) ≡ elementsNeeded) × (depth ≤ depthLimit)) ⌝ }
     ensures { λ r. ⌜ r ≡ certainIf (eqb need 0) (keptIn (now (kept .entry))) (take depth (elementsIn (now (elements .entry)) .list)) level need ⌝ }
 {
     let at = level as usize;
@@ -54,8 +55,8 @@ fn certain(kept: &[u8], elements: &[u8], depth: usize, level: u32, need: u32) ->
 
 // How many nodes at the front are certain.
 fn front(kept: &[u8], elements: &[u8], depth: usize, nodes: &[u8], held: usize) -> usize
-    requires { ⌜ (length (now kept) ≡ planRoom) × ((length (now elements) ≡ elementsRoom) × (depth ≤ mostOpen)) ⌝ }
-    requires { ⌜ (length (now nodes) ≡ nodesRoom) × (held ≤ mostHeld) ⌝ }
+    requires { ⌜ (length (now kept) ≡ planRoom) × ((length (now elements) ≡ elementsNeeded) × (depth ≤ depthLimit)) ⌝ }
+    requires { ⌜ (length (now nodes) ≡ nodesNeeded) × (held ≤ heldLimit) ⌝ }
     ensures { λ r. ⌜ r ≡ counted (certain (keptIn (now (kept .entry))) (take depth (elementsIn (now (elements .entry)) .list)))
         (take held (queueIn (now (nodes .entry)) .list)) ⌝ }
     ensures { λ r. ⌜ r ≤ held ⌝ }
@@ -81,8 +82,8 @@ pub fn front_if(
     nodes: &[u8],
     held: usize,
 ) -> usize
-    requires { ⌜ (length (now kept) ≡ planRoom) × ((length (now elements) ≡ elementsRoom) × (depth ≤ mostOpen)) ⌝ }
-    requires { ⌜ (length (now nodes) ≡ nodesRoom) × (held ≤ mostHeld) ⌝ }
+    requires { ⌜ (length (now kept) ≡ planRoom) × ((length (now elements) ≡ elementsNeeded) × (depth ≤ depthLimit)) ⌝ }
+    requires { ⌜ (length (now nodes) ≡ nodesNeeded) × (held ≤ heldLimit) ⌝ }
     ensures { λ r. ⌜ r ≡ wentIf look (keptIn (now (kept .entry))) (take depth (elementsIn (now (elements .entry)) .list))
         (take held (queueIn (now (nodes .entry)) .list)) ⌝ }
     ensures { λ r. ⌜ r ≤ held ⌝ }
@@ -95,7 +96,7 @@ pub fn front_if(
 
 // Where the nodes that wait at this level begin: they are the last ones.
 pub fn suffix(nodes: &[u8], held: usize, level: u32) -> usize
-    requires { ⌜ (length (now nodes) ≡ nodesRoom) × (held ≤ mostHeld) ⌝ }
+    requires { ⌜ (length (now nodes) ≡ nodesNeeded) × (held ≤ heldLimit) ⌝ }
     ensures { λ r. ⌜ r ≡ length (cut levelOf level (take held (queueIn (now (nodes .entry)) .list)) .before) ⌝ }
     ensures { λ r. ⌜ r ≤ held ⌝ }
 {
@@ -112,7 +113,7 @@ pub fn suffix(nodes: &[u8], held: usize, level: u32) -> usize
 
 // Record `end` is this node where it stays. Returns where the next one goes.
 fn keep_if(stays: bool, nodes: &mut [u8], end: usize, node: u32, level: u32, need: u32) -> usize
-    requires { ⌜ (length (now nodes) ≡ nodesRoom) × (end < mostHeld) ⌝ }
+    requires { ⌜ (length (now nodes) ≡ nodesNeeded) × (end < heldLimit) ⌝ }
     ensures { λ r. ⌜ record { held = r; queue = queueIn (now (nodes .exit)) } ≡ keptIf stays end node level need (queueIn (now (nodes .entry))) ⌝ }
 {
     if stays {
@@ -133,7 +134,7 @@ pub fn move_up(
     from: usize,
     held: usize,
 ) -> usize
-    requires { ⌜ (length (now kept) ≡ planRoom) × ((length (now nodes) ≡ nodesRoom) × ((from ≤ held) × (held ≤ mostHeld))) ⌝ }
+    requires { ⌜ (length (now kept) ≡ planRoom) × ((length (now nodes) ≡ nodesNeeded) × ((from ≤ held) × (held ≤ heldLimit))) ⌝ }
     ensures { λ r. ⌜ record { held = r; queue = queueIn (now (nodes .exit)) }
         ≡ movedFrom (keptIn (now (kept .entry))) m ready to held from from (queueIn (now (nodes .entry))) ⌝ }
     ensures { λ r. ⌜ r ≤ held ⌝ }
@@ -151,7 +152,7 @@ pub fn move_up(
 
 // The nodes of `k` to `held` move to the front.
 fn shift(nodes: &mut [u8], k: usize, held: usize)
-    requires { ⌜ (length (now nodes) ≡ nodesRoom) × ((k ≤ held) × (held ≤ mostHeld)) ⌝ }
+    requires { ⌜ (length (now nodes) ≡ nodesNeeded) × ((k ≤ held) × (held ≤ heldLimit)) ⌝ }
     ensures { λ r. ⌜ queueIn (now (nodes .exit)) ≡ shifted k held 0 (queueIn (now (nodes .entry))) ⌝ }
 {
     let rest = held - k;
@@ -167,7 +168,7 @@ fn shift(nodes: &mut [u8], k: usize, held: usize)
 
 // The first `k` nodes as list records, from the start of the buffer.
 fn write_front(nodes: &[u8], k: usize, out: &mut [u8])
-    requires { ⌜ (length (now nodes) ≡ nodesRoom) × ((k ≤ mostHeld) × (4 * k ≤ length (now out))) ⌝ }
+    requires { ⌜ (length (now nodes) ≡ nodesNeeded) × ((k ≤ heldLimit) × (4 * k ≤ length (now out))) ⌝ }
     ensures { λ r. ⌜ now (out .exit) ≡ buffer (numbers (take k (queueIn (now (nodes .entry)) .list))) (now (out .entry)) ⌝ }
 {
     let mut i: usize = 0;
@@ -179,7 +180,7 @@ fn write_front(nodes: &[u8], k: usize, out: &mut [u8])
 
 // Hands out the first `k` of `held` nodes.
 pub fn hand_out(k: usize, held: usize, nodes: &mut [u8], out: &mut [u8])
-    requires { ⌜ (length (now nodes) ≡ nodesRoom) × ((k ≤ held) × ((held ≤ mostHeld) × (4 * held ≤ length (now out)))) ⌝ }
+    requires { ⌜ (length (now nodes) ≡ nodesNeeded) × ((k ≤ held) × ((held ≤ heldLimit) × (4 * held ≤ length (now out)))) ⌝ }
     ensures { λ r. ⌜ record { queue = queueIn (now (nodes .exit)); out = now (out .exit) }
         ≡ handedOut k held (queueIn (now (nodes .entry))) (now (out .entry)) ⌝ }
 {
@@ -199,11 +200,11 @@ pub fn join(
     nodes: &mut [u8],
     out: &mut [u8],
 ) -> usize
-    requires { ⌜ (length (now nodes) ≡ nodesRoom) × ((go .went ≤ held) × ((held ≤ mostHeld) × (4 * held + 4 ≤ length (now out)))) ⌝ }
-    requires { ⌜ (go .all ≡ false → go .joins ≡ true → held < mostHeld + go .went) ⌝ }
+    requires { ⌜ (length (now nodes) ≡ nodesNeeded) × ((go .went ≤ held) × ((held ≤ heldLimit) × (4 * held + 4 ≤ length (now out)))) ⌝ }
+    requires { ⌜ (go .all ≡ false → go .joins ≡ true → held < heldLimit + go .went) ⌝ }
     ensures { λ r. ⌜ record { held = r; queue = queueIn (now (nodes .exit)); out = now (out .exit) }
         ≡ joined go held number level (queueIn (now (nodes .entry))) (now (out .entry)) ⌝ }
-    ensures { λ r. ⌜ r ≤ mostHeld ⌝ }
+    ensures { λ r. ⌜ r ≤ heldLimit ⌝ }
 {
     let went = go.went;
     if go.all {

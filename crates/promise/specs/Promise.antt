@@ -1,78 +1,101 @@
 -- What begin, event and finish give on a session that calls reach, in the words of the meaning: the links of the proof of Theorem.
 --
---   sessionAfter q es          THE SESSION after the query q and the accepted events es: one value for each
---   Of b es s                  s is the session after the query bytes b were admitted and the events es accepted by some calls
---   Given q a es out d         d is the answer a, the session after es and the buffer out with the nodes of a written
---   begin-of                   the session that begin gives beside an admitted query is the one after no events
---   event-owed                 what an event comes to, by the lowest refusal that applies
---   event-given, event-of      an event gives the meaning's answer, and leads to the session after the events then accepted
+--   SameUsed l E N             the room E and N has the records in use as the room of l has them; the rest is anything
+--   Of b es l                  l is a session and its room after the query bytes b were admitted and the events es accepted by some calls
+--   leftBy l E N d             the session and its room after an event that was lent E and N and came to d: room that is too small is not touched
+--   Given o bytes .. x d       d is what is owed where x is the first refusal that applies
+--   begin-of                   the session that begin gives beside an admitted query is one after no events, with any room
+--   event-given, event-of      an event gives the meaning's answer, and leads to a session after the events then accepted
 --   finish-given               finish gives the meaning's answer
---   waiting-held, opened-is, handed-is, count-is      what a session's waiting nodes and counts are
+--   waiting-held, opened-is, handed-is, held-is      what a session's waiting nodes and counts are
 --   begin-answer, ruled        begin's answer is the definition's; what an admitted query gives the theorems
 --
--- Assumes that the bytes of a query are bytes. NOT promised: anything but safety of a session value that no calls reach.
-use Prim.Native.Nat.{ℕ, _*_, _≤_}
+-- Assumes that the bytes of a query are bytes. NOT promised: anything but safety of a session value that no calls reach, or of room in which the records in
+-- use are others than the last call left.
+use Prim.Native.Nat.{ℕ, _+_, _*_, _≤_, _<_}
+use native.Mathlib.Nat.{mul-zero}
 use native.Mathlib.Omega.{arith}
-use mathlib.Core.Path.{_≡_, refl, sym, ap, _∙_, subst}
-use mathlib.Core.Bool.{Bool, true, false, not}
-use mathlib.Core.List.{List, [], map}
+use mathlib.Core.Path.{_≡_, refl, sym, ap, ap₂, _∙_, subst}
+use mathlib.Core.Bool.{Bool, true, false, not, _||_}
+use mathlib.Core.List.{List, [], _++_}
 use mathlib.Core.Option.{Option, none, some}
-use lib.Dec.{T}
-use lib.ListN.{length, take, drop, length-map}
-use lib.Seq.{take-at}
-use Rattle.choice.specs.Pick.{pick}
+use mir.Val.{boolByte}
+use lib.Dec.{T, eqb, leb, ltb}
+use lib.ListN.{length, take, drop, take-append-drop}
+use borrow.Author.Tests.{eq-eqb, ne-eqb, ltb-false, leb-true}
+use Rattle.choice.specs.Pick.{pick, pick-true, pick-false, pick-known, never}
+use Rattle.right.specs.Closes.{byte-read}
+use Rattle.meaning.specs.Limits.{elementRecord, waitingRecord, elementsNeeded, nodesNeeded, outputNeeded, heldLimit, nodeLimit}
+use Rattle.meaning.specs.Limits.Laws.{node-limit-is}
+use Rattle.meaning.specs.Refusals.{shortOutput, shortRoom, unfinished}
 use Rattle.meaning.specs.Query.{Query, admits}
-use Rattle.meaning.specs.Document.{count, finished}
+use Rattle.meaning.specs.Document.{Doc, count, finished}
 use Rattle.meaning.specs.Standing.{listed, held}
 use Rattle.meaning.specs.Demands.{counts-add-up}
 use Rattle.meaning.specs.Stream.{Event, run, document, always, Stream}
 use Rattle.meaning.specs.Record.{eventOf}
 use Rattle.meaning.specs.Answer as meaning
-use Rattle.meaning.specs.Answer.{Call, eventRefusals, refusals, lowestOr, lowest, callEvents, yield, answerIf, answer, afterIf, after, accepted, handedBy}
+use Rattle.meaning.specs.Answer.{Call, tooSmall, eventRefusals, refusals, firstOr, first, callEvents, yield, answerIf, answer, afterIf, after, accepted, handedBy}
 use Rattle.meaning.specs.Answer.Laws.{act-document, after-stream}
 use Rattle.meaning.specs.Answer.Bounds.{Bounded, after-bounded, accepted-within, handed-within}
-use Rattle.query.specs.declared.QueryAnswer.the-variants.{Admitted}
 use Rattle.query.specs.Answer as checked
-use Rattle.query.specs.Answer.{said, answerTo}
+use Rattle.query.specs.Answer.{answerTo}
 use Rattle.query.specs.Decode.{decode, Bytes, Meant}
 use Rattle.query.specs.Decode.Laws.{meant}
 use Rattle.plan.specs.Plan.{plan}
-use Rattle.plan.specs.Planned.{columns}
-use Rattle.plan.specs.Planned.Laws.{planOf-admitted}
-use Rattle.engine_old.specs.Quick as Quick
-use Rattle.engine_old.specs.Quick.Of.{quickState}
-use Rattle.engine_old.specs.Quick.Reads.{quick-begun, quick-held}
-use Rattle.records.specs.Write.Laws.{Nodes, nodesIn-recordsOf}
+use Rattle.plan.specs.Planned.{planOf}
+use Rattle.plan_bytes.specs.Kept.{keptIn}
+use Rattle.plan_bytes.specs.Kept.Planned.{kept-admitted}
+use Rattle.records.specs.Read.{shown}
+use Rattle.records.specs.Write.{buffer}
+use Rattle.records.specs.Write.Laws.{Nodes, nodesIn-recordsOf, buffer-none}
+use Rattle.words.specs.Records.{laid}
+use Rattle.element.specs.Element as element
+use Rattle.element.specs.Element.{Elements, elementsIn}
+use Rattle.element.specs.Element.Laws.{frames-length}
+use Rattle.node.specs.Node as node
+use Rattle.node.specs.Node.{Queue, queueIn}
+use Rattle.node.specs.Node.Laws.{nodes-length}
+use Rattle.nodes.specs.Nodes.{numbers}
+use Rattle.numbers.specs.Numbers.{Numbers}
+use Rattle.step.specs.Step.{After, refusedWith, step}
+use Rattle.right.specs.Used.{stateIn, same-state}
+use Rattle.right.specs.Right as right
+use Rattle.right.specs.Right.{Stands, Within, newly, StepOwed, refuses, takes, stands-begun, step-right}
+use Rattle.right.specs.Right.{ended-read, opened-read, handed-read, held-read, waiting-read}
+use Rattle.right.specs.Small.{named-stream}
+use Rattle.right.specs.Rooms.{StandsIn, stands-lent, stands-laid}
+use Rattle.feed.specs.Fed.{Came}
+use Rattle.feed.specs.Steps.{Seat, seat, cameTo, stepAt}
 use Rattle.session.specs.declared.Session.{Session}
 use Rattle.session.specs.declared.Begun as given
+use Rattle.session.specs.declared.Start.the-variants as started
 use Rattle.session.specs.declared.Step.{Step}
 use Rattle.session.specs.declared.Answer.the-variants.{Refused, Taken}
 use Rattle.session.specs.declared.Finish as finishing
 use Rattle.session.specs.declared.Finish.the-variants as finish-cases
-use Rattle.session.specs.Begin.{fresh, Begun, sessionFor, begun, BeginGives}
-use Rattle.session.specs.Event.{Done, event, EventGives, finish, FinishGives}
+use Rattle.session.specs.Begin.{fresh, said, Begun, answerOf, sessionFor, begun, BeginGives}
+use Rattle.session.specs.Event.{Done, refused, numbersOf, withNumbers, settled, within, beside, event, EventGives, finish, FinishGives}
 use Rattle.session.specs.Event.Laws.{event-is}
+use Rattle.session.specs.Run.{Lent, lent}
 use Rattle.session.specs.Told.{told, ended}
-use Rattle.columns.specs.Hand.{buffer, buffer-none}
-use Rattle.columns.specs.Sessions.{sessionOf}
-use Rattle.columns.specs.Right.{theSession, Within, owed, event-right, owedFinish, finish-right}
 
-unfoldable pub sessionAfter : Query → List Event → Session
-sessionAfter q es = theSession q (document es)
+pub record SameUsed (l : Lent) (E N : List ℕ) : Type 0 where
+  pub elements : take (elementRecord * l .session .depth) E ≡ take (elementRecord * l .session .depth) (l .elements)
+  pub nodes : take (waitingRecord * l .session .held) N ≡ take (waitingRecord * l .session .held) (l .nodes)
 
-pub record Of (b : List ℕ) (es : List Event) (s : Session) : Type 0 where
+pub record Of (b : List ℕ) (es : List Event) (l : Lent) : Type 0 where
   pub bytes : Bytes b
   pub admitted : answerTo b ≡ checked.admitted
   pub stream : Stream es
   pub bounds : Bounded (decode b) es
-  pub is : s ≡ sessionAfter (decode b) es
+  pub kept : keptIn (l .session .kept) ≡ plan (decode b)
+  pub stands : StandsIn (decode b) (document es) (numbersOf (l .session)) (l .elements) (l .nodes)
 
-pub record Given (q : Query) (a : meaning.Answer) (es : List Event) (out : List ℕ) (d : Done) : Type 0 where
-  pub answered : told (d .answer) (d .out) ≡ a
-  pub next : d .session ≡ sessionAfter q es
-  pub written : d .out ≡ buffer (handedBy a) out
+unfoldable pub leftBy : Lent → List ℕ → List ℕ → Session → List ℕ → List ℕ → Lent
+leftBy l E N s E′ N′ = pick (tooSmall (length E) (length N)) (lent s (l .elements) (l .nodes)) (lent s E′ N′)
 
--- within the limits the session's arrays have room
+-- within the limits the lent records have room
 within-limits : (q : Query) → T (admits q) → length q ≤ 32 → (es : List Event) → Bounded q es → Within q (document es)
 within-limits q ok small es w =
     record {
@@ -84,138 +107,282 @@ within-limits q ok small es w =
     }
 
 -- nodes that stand in the buffer are told
-told-buffer : (ns out : List ℕ) → Nodes ns → told (Taken (length ns)) (buffer ns out) ≡ meaning.taken ns
+told-buffer : (k : ℕ) (ns out : List ℕ) → k ≡ length ns → Nodes ns → told (Taken k) (buffer ns out) ≡ meaning.taken ns
 unfolding told buffer
-told-buffer ns out h = ap meaning.taken (nodesIn-recordsOf ns (drop (4 * length ns) out) h)
+told-buffer k ns out e h =
+    ap (λ (n : ℕ). told (Taken n) (buffer ns out)) e ∙ ap meaning.taken (nodesIn-recordsOf ns (drop (4 * length ns) out) h)
 
-module _ (q : Query) (es : List Event) (bytes out : List ℕ) where
-  abbrev c : Call
-  c = Call.event bytes (length out)
+-- what the check admits is what the promises ask
+pub ruled : {b : List ℕ} {es : List Event} {l : Lent} → Of b es l → Meant b
+ruled {b} o = meant b (o .bytes) (o .admitted)
 
-  -- by the lowest refusal that applies
-  owed-given :
-      (o : Option ℕ) → Nodes (handedBy (answerIf o (yield q (document es) c))) →
-      Given q (answerIf o (yield q (document es) c)) (afterIf o es (callEvents c)) out (owed q (document es) (eventOf bytes) out o)
-  unfolding owed answerIf afterIf handedBy sessionAfter yield callEvents told
-  owed-given (some r) h = record { answered = refl; next = refl; written = sym (buffer-none out) }
-  owed-given none h =
+-- enough is lent
+pub room-long : (E N : List ℕ) → tooSmall (length E) (length N) ≡ false → (elementsNeeded ≤ length E) × (nodesNeeded ≤ length N)
+unfolding tooSmall
+room-long E N e = by (ltb (length E) elementsNeeded) (ltb (length N) nodesNeeded) refl refl e
+  where
+    by : (x y : Bool) → ltb (length E) elementsNeeded ≡ x → ltb (length N) nodesNeeded ≡ y → (x || y) ≡ false →
+        (elementsNeeded ≤ length E) × (nodesNeeded ≤ length N)
+    by false false p r f = (ltb-false (length E) elementsNeeded p, ltb-false (length N) nodesNeeded r)
+    by true y p r f = never (sym f)
+    by false true p r f = never (sym f)
+
+-- the numbers of a session that was given them stand for the same
+stands-numbers :
+    (s : Session) (n : Numbers) (q : Query) (d : Doc) (E : Elements) (N : Queue) → Stands q d n E N → Stands q d (numbersOf (withNumbers s n)) E N
+unfolding stateIn
+stands-numbers s n q d E N st =
+    record {
+      state = same-state refl refl refl refl (byte-read (not (eqb (n .ended) 0))) ∙ st .state;
+      roomy = st .roomy;
+      deep = st .deep;
+      few = st .few;
+    }
+
+-- room with the records in use stands for the same
+module _ {b : List ℕ} {es : List Event} {l : Lent} (o : Of b es l) where
+  of-lent :
+      (E N : List ℕ) → elementsNeeded ≤ length E → nodesNeeded ≤ length N → SameUsed l E N → Of b es (lent (l .session) E N)
+  of-lent E N longE longN same =
       record {
-        answered = told-buffer _ out h;
-        next = ap (theSession q) (act-document es (eventOf bytes));
-        written = refl;
+        bytes = o .bytes;
+        admitted = o .admitted;
+        stream = o .stream;
+        bounds = o .bounds;
+        kept = o .kept;
+        stands =
+            stands-lent (decode b) (document es) (numbersOf (l .session)) (l .elements) (l .nodes) E N longE longN (same .elements) (same .nodes)
+            (o .stands);
       }
 
-  handed-nodes : Bounded q es → Nodes (handedBy (answer q es c))
-  handed-nodes w i = omega (arith, handed-within q es c i, after-bounded q es c w .nodes)
+-- an event
 
-  event-promised : T (admits q) → length q ≤ 32 → Bounded q es → Given q (answer q es c) (after q es c) out (event (sessionAfter q es) bytes out)
-  unfolding sessionAfter answer after refusals
-  event-promised ok small w =
-      subst (Given q (answer q es c) (after q es c) out) (sym (event-right q (document es) (within-limits q ok small es w) out bytes))
-      (owed-given (lowest (eventRefusals q (document es) (eventOf bytes) (length out))) (handed-nodes w))
+module _ {b : List ℕ} {es : List Event} {l : Lent} (o : Of b es l) (bytes E N out : List ℕ)
+    (same : tooSmall (length E) (length N) ≡ false → SameUsed l E N) where
+  abbrev q : Query
+  q = decode b
 
--- finish
-finish-line : (b : Bool) (k h : ℕ) →
-    ended (pick b (finish-cases.Refused 8) (finish-cases.Ended k h)) ≡ answerIf (lowestOr b 8 none) (meaning.ended k h)
-unfolding pick ended answerIf lowestOr
-finish-line true k h = refl
-finish-line false k h = refl
+  abbrev pub c : Call
+  c = Call.event bytes (record { out = length out; elements = length E; nodes = length N })
 
-finish-promised : (q : Query) (es : List Event) → ended (finish (sessionAfter q es)) ≡ answer q es Call.finish
-unfolding sessionAfter answer refusals lowest yield owedFinish
-finish-promised q es =
-    ap ended (finish-right q (document es)) ∙ finish-line (not (finished (document es))) (count (document es)) (length (listed q (document es)))
+  pub record Given (x : Option ℕ) (d : Done) : Type 0 where
+    pub answered : told (d .answer) (d .out) ≡ answerIf x (yield q (document es) c)
+    pub next : Of b (afterIf x es (callEvents c)) (leftBy l E N (d .session) (d .elements) (d .nodes))
+    pub written : d .out ≡ buffer (handedBy (answerIf x (yield q (document es) c))) out
+
+  -- a refused event leaves all as it was
+  refused-of : Of b es (leftBy l E N (l .session) E N)
+  unfolding leftBy
+  refused-of = pick-known (Of b es) (tooSmall (length E) (length N)) _ _ (λ e. o) (λ e. of-lent o E N (room-long E N e .0) (room-long E N e .1) (same e))
+
+  refused-given : (r : ℕ) → Given (some r) (refused r (l .session) E N out)
+  unfolding answerIf afterIf handedBy told
+  refused-given r = record { answered = refl; next = refused-of; written = sym (buffer-none out) }
+
+  module _ (wide : ltb (length out) outputNeeded ≡ false) (enough : tooSmall (length E) (length N) ≡ false) where
+    abbrev n : Numbers
+    n = numbersOf (l .session)
+
+    abbrev E₀ : List ℕ
+    E₀ = take elementsNeeded E
+
+    abbrev N₀ : List ℕ
+    N₀ = take nodesNeeded N
+
+    abbrev doneBy : After → Done
+    doneBy a = beside E N (settled (l .session) E₀ N₀ out (cameTo (seat n E₀ N₀) out a))
+
+    done-refused : (r : ℕ) → 0 < r → doneBy (refusedWith r n (elementsIn E₀) (queueIn N₀) out) ≡ refused r (l .session) E N out
+    unfolding settled cameTo
+    done-refused r h =
+        let some-is : eqb r 0 ≡ false = ne-eqb r 0 (λ z. omega arith) in
+        ap (λ (y : Came Seat). beside E N (settled (l .session) E₀ N₀ out y)) (pick-false (eqb r 0) _ _ some-is)
+        ∙ ap (beside E N) (pick-false (eqb r 0) _ (refused r (l .session) E₀ N₀ out) some-is)
+        ∙ ap₂ (λ x y. refused r (l .session) x y out) (take-append-drop elementsNeeded E) (take-append-drop nodesNeeded N)
+
+    abbrev doneTaken : After → Done
+    doneTaken a =
+        record {
+          answer = Taken (a .given);
+          session = withNumbers (l .session) (a .numbers);
+          elements = laid element.shape (a .elements) ++ drop elementsNeeded E;
+          nodes = laid node.shape (a .nodes) ++ drop nodesNeeded N;
+          out = a .out;
+        }
+
+    done-taken : (a : After) → a .refusal ≡ 0 → doneBy a ≡ doneTaken a
+    unfolding settled cameTo
+    done-taken a z =
+        ap (λ (y : Came Seat). beside E N (settled (l .session) E₀ N₀ out y)) (pick-true (eqb (a .refusal) 0) _ _ (eq-eqb (a .refusal) 0 z))
+        ∙ ap (beside E N) (pick-true true _ _ refl)
+
+    taken-of : (a : After) → right.Taken q (document es) (meaning.actIf (eventOf bytes) (document es)) out a → first (refusals q (document es) c) ≡ none →
+        Of b (es ++ callEvents c) (leftBy l E N (doneTaken a .session) (doneTaken a .elements) (doneTaken a .nodes))
+    unfolding leftBy callEvents
+    taken-of a t f =
+        let fs : List Event = es ++ meaning.eventsOf (eventOf bytes) in
+        let is : after q es c ≡ fs = unfold after afterIf callEvents in ap (λ (x : Option ℕ). afterIf x es (meaning.eventsOf (eventOf bytes))) f in
+        let stream : Stream fs = subst Stream is (after-stream q es c (o .stream)) in
+        let bounds : Bounded q fs = subst (Bounded q) is (after-bounded q es c (o .bounds)) in
+        let doc : meaning.actIf (eventOf bytes) (document es) ≡ document fs = act-document es (eventOf bytes) in
+        subst (Of b fs) (sym (pick-false (tooSmall (length E) (length N)) _ _ enough))
+        (record {
+          bytes = o .bytes;
+          admitted = o .admitted;
+          stream = stream;
+          bounds = bounds;
+          kept = o .kept;
+          stands =
+              stands-numbers (l .session) (a .numbers) q (document fs) _ _
+              (stands-laid q (document fs) (a .numbers) (a .elements) (a .nodes)
+              (subst (λ d. Stands q d (a .numbers) (a .elements) (a .nodes)) doc (t .stands)) (ruled o .most) (named-stream fs stream) (bounds .nodes)
+              (bounds .deep) (drop elementsNeeded E) (drop nodesNeeded N));
+        })
+
+    handed-nodes : first (refusals q (document es) c) ≡ none → Nodes (newly q (document es) (meaning.actIf (eventOf bytes) (document es)))
+    unfolding answer answerIf handedBy yield
+    handed-nodes f =
+        let e : handedBy (answer q es c) ≡ newly q (document es) (meaning.actIf (eventOf bytes) (document es)) =
+        ap (λ (x : Option ℕ). handedBy (answerIf x (yield q (document es) c))) f in
+        subst Nodes e (λ i. omega (arith, node-limit-is, handed-within q es c i, after-bounded q es c (o .bounds) .nodes))
+
+    taken-given :
+        (a : After) → right.Taken q (document es) (meaning.actIf (eventOf bytes) (document es)) out a → first (refusals q (document es) c) ≡ none →
+        Given none (doneTaken a)
+    unfolding answerIf afterIf handedBy yield
+    taken-given a t f =
+        let ns : List ℕ = newly q (document es) (meaning.actIf (eventOf bytes) (document es)) in
+        let small : Nodes ns = handed-nodes f in
+        record {
+          answered = ap (told (Taken (a .given))) (t .written) ∙ told-buffer (a .given) ns out (t .given) small;
+          next = taken-of a t f;
+          written = t .written;
+        }
+
+    -- by what is owed of a step
+    step-given :
+        (x : Option ℕ) (a : After) → first (refusals q (document es) c) ≡ x →
+        StepOwed q (document es) (eventOf bytes) n (elementsIn E₀) (queueIn N₀) out x a → Given x (doneBy a)
+    step-given (some r) a f (refuses h e) =
+        subst (Given (some r)) (sym (done-refused r h) ∙ ap doneBy (sym e)) (refused-given r)
+    step-given none a f (takes t) = subst (Given none) (sym (done-taken a (t .refusal))) (taken-given a t f)
+
+    within-given : Given (first (refusals q (document es) c)) (beside E N (within (l .session) bytes E₀ N₀ out))
+    unfolding within stepAt refusals
+    within-given =
+        step-given (first (refusals q (document es) c)) _ refl
+        (step-right q (document es) (within-limits q (ruled o .admitted) (ruled o .most) es (o .bounds)) n (elementsIn E₀) (queueIn N₀)
+        (of-lent o E N (room-long E N enough .0) (room-long E N enough .1) (same enough) .stands) out
+        (record { out = length out; elements = length E; nodes = length N }) wide enough (keptIn (l .session .kept)) (o .kept) (eventOf bytes))
+
+  pub event-owed : Given (first (refusals q (document es) c)) (event (l .session) bytes E N out)
+  unfolding event refusals eventRefusals first firstOr
+  event-owed =
+      pick-known (Given (first (refusals q (document es) c))) (ltb (length out) outputNeeded) _ _
+      (λ t. subst (λ x. Given x (refused shortOutput (l .session) E N out)) (sym (first-one t)) (refused-given shortOutput))
+      (λ f.
+      pick-known (Given (first (refusals q (document es) c))) (tooSmall (length E) (length N)) _ _
+      (λ t. subst (λ x. Given x (refused shortRoom (l .session) E N out)) (sym (first-fifteen f t)) (refused-given shortRoom))
+      (λ g. within-given f g))
+    where
+      rest : Option ℕ
+      rest = first (drop 2 (eventRefusals q (document es) (eventOf bytes) (record { out = length out; elements = length E; nodes = length N })))
+
+      first-one : ltb (length out) outputNeeded ≡ true → first (refusals q (document es) c) ≡ some shortOutput
+      first-one t = ap (λ (x : Bool). firstOr x shortOutput (firstOr (tooSmall (length E) (length N)) shortRoom rest)) t
+
+      first-fifteen :
+          ltb (length out) outputNeeded ≡ false → tooSmall (length E) (length N) ≡ true → first (refusals q (document es) c) ≡ some shortRoom
+      first-fifteen f t = ap₂ (λ (x y : Bool). firstOr x shortOutput (firstOr y shortRoom rest)) f t
+
+  module _ (r : Step) (E′ N′ out′ : List ℕ) (g : EventGives (l .session) bytes E N out r E′ N′ out′) where
+    pub event-given :
+        Given (first (refusals q (document es) c)) (record { answer = r .answer; session = r .session; elements = E′; nodes = N′; out = out′ })
+    event-given = subst (Given (first (refusals q (document es) c))) (sym (event-is (l .session) bytes E N out r E′ N′ out′ g)) event-owed
+
+    pub event-answered : told (r .answer) out′ ≡ answer q es c
+    unfolding answer
+    event-answered = event-given .answered
+
+    pub event-of : Of b (after q es c) (leftBy l E N (r .session) E′ N′)
+    unfolding after
+    event-of = event-given .next
+
+    pub event-written : out′ ≡ buffer (handedBy (answer q es c)) out
+    unfolding answer
+    event-written = event-given .written
+
+-- what is read of a session that calls reach
+
+module _ {b : List ℕ} {es : List Event} {l : Lent} (o : Of b es l) where
+  abbrev E₁ : Elements
+  E₁ = elementsIn (take elementsNeeded (l .elements))
+
+  abbrev N₁ : Queue
+  N₁ = queueIn (take nodesNeeded (l .nodes))
+
+  pub ended-is : l .session .ended ≡ finished (document es)
+  ended-is = sym (byte-read (l .session .ended)) ∙ ended-read (decode b) (document es) (numbersOf (l .session)) E₁ N₁ (o .stands)
+
+  pub opened-is : l .session .opened ≡ count (document es)
+  opened-is = opened-read (decode b) (document es) (numbersOf (l .session)) E₁ N₁ (o .stands)
+
+  pub handed-is : l .session .handed ≡ length (listed (decode b) (document es))
+  handed-is = handed-read (decode b) (document es) (numbersOf (l .session)) E₁ N₁ (o .stands)
+
+  pub held-is : l .session .held ≡ length (held (decode b) (document es))
+  held-is = held-read (decode b) (document es) (numbersOf (l .session)) E₁ N₁ (o .stands)
+
+  pub waiting-held : numbers (take (l .session .held) (queueIn (take nodesNeeded (l .nodes)) .list)) ≡ held (decode b) (document es)
+  waiting-held = waiting-read (decode b) (document es) (numbersOf (l .session)) E₁ N₁ (o .stands)
+
+  -- finish
+  finish-line : (x : Bool) (k h : ℕ) →
+      ended (pick x (finish-cases.Ended k h) (finish-cases.Refused unfinished)) ≡ answerIf (firstOr (not x) unfinished none) (meaning.ended k h)
+  unfolding pick ended answerIf firstOr
+  finish-line true k h = refl
+  finish-line false k h = refl
+
+  pub finish-given : (f : finishing.Finish) → FinishGives (l .session) f → ended f ≡ answer (decode b) es Call.finish
+  unfolding finish answer refusals first yield
+  finish-given f g =
+      g
+      ∙ ap (λ (x : Bool). ended (pick x (finish-cases.Ended (l .session .opened) (l .session .handed)) (finish-cases.Refused unfinished))) ended-is
+      ∙ ap₂ (λ (k h : ℕ). ended (pick (finished (document es)) (finish-cases.Ended k h) (finish-cases.Refused unfinished))) opened-is handed-is
+      ∙ finish-line (finished (document es)) (count (document es)) (length (listed (decode b) (document es)))
 
 -- begin
-fresh-begun : (q : Query) → fresh (columns (plan q)) ≡ sessionOf (plan q) Quick.begun
-unfolding fresh columns Quick.begun
-fresh-begun q = refl
 
-fresh-is : (q : Query) → fresh (columns (plan q)) ≡ sessionAfter q []
-unfolding sessionAfter document run
-fresh-is q = fresh-begun q ∙ ap (sessionOf (plan q)) (sym (quick-begun q))
-
-begin-promised : (b : List ℕ) → answerTo b ≡ checked.admitted → begun b .session ≡ sessionAfter (decode b) []
-unfolding begun sessionFor
-begin-promised b ok = ap (λ (a : checked.Answer). sessionFor a b) ok ∙ ap fresh (planOf-admitted b ok) ∙ fresh-is (decode b)
-
-pub begin-answer : (b : List ℕ) (r : given.Begun) → BeginGives b r → said (r .answer) ≡ answerTo b
+pub begin-answer : (b E N : List ℕ) (r : given.Begun) → BeginGives b E N r → said (r .answer) ≡ answerOf b E N
 unfolding begun
-begin-answer b r g = ap (λ (x : Begun). x .answer) g
+begin-answer b E N r g = ap (λ (x : Begun). x .answer) g
 
-pub begin-of : (b : List ℕ) (r : given.Begun) → Bytes b → BeginGives b r → r .answer ≡ Admitted → Of b [] (r .session)
-unfolding accepted always said
-begin-of b r bytes g told-so =
-    let ok : answerTo b ≡ checked.admitted = sym (begin-answer b r g) ∙ ap said told-so in
+pub begin-session : (b E N : List ℕ) (r : given.Begun) → BeginGives b E N r → r .session ≡ sessionFor (answerOf b E N) b
+unfolding begun
+begin-session b E N r g = ap (λ (x : Begun). x .session) g
+
+pub begin-admitted : (b E N : List ℕ) (r : given.Begun) → BeginGives b E N r → r .answer ≡ started.Begun → answerTo b ≡ checked.admitted
+unfolding answerOf said
+begin-admitted b E N r g told-so =
+    pick-known (λ (a : checked.Answer). a ≡ checked.admitted → answerTo b ≡ checked.admitted) (tooSmall (length E) (length N)) _ _
+    (λ t e. let z : _≡_ {A = ℕ} 0 1 = cc in absurd (omega arith)) (λ f e. e)
+    (sym (begin-answer b E N r g) ∙ ap said told-so)
+
+pub begin-of :
+    (b E N : List ℕ) (r : given.Begun) → Bytes b → BeginGives b E N r → r .answer ≡ started.Begun → (A B : List ℕ) → Of b [] (lent (r .session) A B)
+unfolding accepted always said document run sessionFor fresh
+begin-of b E N r bytes g told-so A B =
+    let ok : answerTo b ≡ checked.admitted = begin-admitted b E N r g told-so in
+    let is : r .session ≡ fresh (planOf b) =
+    begin-session b E N r g ∙ ap (λ (a : checked.Answer). sessionFor a b) (sym (begin-answer b E N r g) ∙ ap said told-so) in
     record {
       bytes = bytes;
       admitted = ok;
       stream = tt;
       bounds = accepted-within (decode b) [];
-      is = ap (λ (x : Begun). x .session) g ∙ begin-promised b ok;
+      kept = ap (λ (s : Session). keptIn (s .kept)) is ∙ kept-admitted b bytes ok;
+      stands =
+          subst (λ (s : Session). StandsIn (decode b) (document []) (numbersOf s) A B) (sym is)
+          (stands-begun (decode b) (elementsIn (take elementsNeeded A)) (queueIn (take nodesNeeded B))
+          (record { elements = frames-length (take elementsNeeded A); nodes = nodes-length (take nodesNeeded B) }));
     }
-
--- on a session that calls reach
-module _ {b : List ℕ} {es : List Event} {s : Session} (o : Of b es s) where
-  abbrev q : Query
-  q = decode b
-
-  -- what the check admits is what the promises ask
-  pub ruled : Meant b
-  ruled = meant b (o .bytes) (o .admitted)
-
-  -- by the lowest refusal that applies
-  pub event-owed :
-      (bytes out : List ℕ) → event s bytes out ≡ owed q (document es) (eventOf bytes) out (lowest (refusals q (document es) (Call.event bytes (length out))))
-  unfolding sessionAfter refusals
-  event-owed bytes out =
-      ap (λ t. event t bytes out) (o .is)
-      ∙ event-right q (document es) (within-limits q (ruled .admitted) (ruled .most) es (o .bounds)) out bytes
-
-  module _ (bytes out : List ℕ) (r : Step) (out′ : List ℕ) (g : EventGives s bytes out r out′) where
-    pub event-given :
-        Given q (answer q es (Call.event bytes (length out))) (after q es (Call.event bytes (length out))) out
-        (record { answer = r .answer; session = r .session; out = out′ })
-    event-given =
-        subst (Given q (answer q es (Call.event bytes (length out))) (after q es (Call.event bytes (length out))) out)
-        (sym (event-is s bytes out r out′ g ∙ ap (λ t. event t bytes out) (o .is)))
-        (event-promised q es bytes out (ruled .admitted) (ruled .most) (o .bounds))
-
-    pub event-of : Of b (after q es (Call.event bytes (length out))) (r .session)
-    event-of =
-        record {
-          bytes = o .bytes;
-          admitted = o .admitted;
-          stream = after-stream q es (Call.event bytes (length out)) (o .stream);
-          bounds = after-bounded q es (Call.event bytes (length out)) (o .bounds);
-          is = event-given .next;
-        }
-
-  pub finish-given : (f : finishing.Finish) → FinishGives s f → ended f ≡ answer q es Call.finish
-  finish-given f g = g ∙ ap (λ t. ended (finish t)) (o .is) ∙ finish-promised q es
-
-  waiting-of : (t : Session) → t ≡ sessionAfter q es → take (t .counts .count) (t .node) ≡ held q (document es)
-  unfolding sessionAfter
-  waiting-of t e =
-      ap (λ (x : Session). take (x .counts .count) (x .node)) e
-      ∙ take-at (map (λ w. w .node) (quickState q (document es) .queue)) _ (length (quickState q (document es) .queue))
-      (length-map (quickState q (document es) .queue) (λ w. w .node))
-      ∙ quick-held q (document es)
-
-  pub waiting-held : take (s .counts .count) (s .node) ≡ held q (document es)
-  waiting-held = waiting-of s (o .is)
-
-  pub opened-is : s .counts .opened ≡ count (document es)
-  unfolding sessionAfter quickState
-  opened-is = ap (λ (x : Session). x .counts .opened) (o .is)
-
-  pub handed-is : s .counts .handed ≡ length (listed q (document es))
-  unfolding sessionAfter quickState
-  handed-is = ap (λ (x : Session). x .counts .handed) (o .is)
-
-  pub count-is : s .counts .count ≡ length (held q (document es))
-  unfolding sessionAfter
-  count-is =
-      ap (λ (x : Session). x .counts .count) (o .is)
-      ∙ sym (length-map (quickState q (document es) .queue) (λ w. w .node))
-      ∙ ap length (quick-held q (document es))

@@ -19,9 +19,10 @@ use native.Mathlib.Numerals.{add-one}
 use native.Mathlib.Nat.{sub-zero}
 use lib.ListN.{length, take, drop, length-take, length-drop}
 use Rattle.meaning.specs.Query.{nearer}
+use Rattle.meaning.specs.Refusals.{badStep}
 use Rattle.query.specs.Rules.{stepBytes, steps, stepOf, isMain, nearest, keeps, keepsWith}
 use Rattle.query.specs.Rules.Laws.{keeps-is}
-use Rattle.query.specs.Answer.{badStep, admitted, refusedAt, ifKept, judgedFrom, judged}
+use Rattle.query.specs.Answer.{admitted, refusedAt, ifKept, judgedFrom, judged}
 
 abbrev pub partAt : List ℕ → ℕ → List ℕ
 partAt q at = take ((at + 8) - at) (drop at q)

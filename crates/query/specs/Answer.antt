@@ -1,6 +1,5 @@
 -- What the query check answers, in document 01's numbers.
 --
---   badLength, badStep   the two refusal numbers
 --   Answer               admitted, or refused by a number, or refused by a number at a step
 --   said a               the answer that a case of the code's enum stands for
 --   FirstBreaking q k    the length is right, step k breaks a rule and no earlier step does
@@ -18,17 +17,10 @@ use mathlib.Core.Path.{_≡_}
 use mathlib.Core.Bool.{Bool, true, false}
 use mathlib.Core.List.{List}
 use lib.ListN.{length}
+use Rattle.meaning.specs.Refusals.{badLength, badStep}
 use Rattle.query.specs.Rules.{wrongLength, steps, keeps}
 use Rattle.query.specs.declared.QueryAnswer.{QueryAnswer}
 use Rattle.query.specs.declared.QueryAnswer.the-variants.{Admitted, BadLength, BadStep}
-
--- "query of 0 bytes, of a length not a multiple of 8, or over 256 bytes"
-abbrev pub badLength : ℕ
-badLength = 9
-
--- "a step breaks a rule; comes with the first such step's number"
-abbrev pub badStep : ℕ
-badStep = 10
 
 pub data Answer : Type 0 where
   admitted : Answer

@@ -13,8 +13,9 @@ use mathlib.Core.Path.{_≡_, refl}
 use mathlib.Core.Bool.{true, false}
 use mathlib.Core.List.{List, [], _∷_, _++_, map}
 use Rattle.meaning.specs.Query.{child, descendant, Query, nearer}
+use Rattle.meaning.specs.Refusals.{badLength, badStep}
 use Rattle.query.specs.Rules.{laterRule, nearest, hangRule, keeps}
-use Rattle.query.specs.Answer.{badLength, badStep, Answer, admitted, refused, refusedAt, ifKept, judgedFrom, judged, ifWrong, answerTo}
+use Rattle.query.specs.Answer.{Answer, admitted, refused, refusedAt, ifKept, judgedFrom, judged, ifWrong, answerTo}
 use Rattle.query.specs.Decode.{axisMeant, decodeStep, decodeFrom, decode}
 
 abbrev pub step : ℕ → ℕ → ℕ → ℕ → List ℕ

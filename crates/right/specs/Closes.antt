@@ -21,6 +21,8 @@ use lib.ListN.{length, getD, take, drop, length-append, length-map, length-drop,
 use lib.Seq.{take-suc, take-at, drop-at, take-take, getD-take, length-take-le}
 use borrow.Author.Tests.{lt-ltb, le-ltb}
 use Rattle.choice.specs.Count.{down}
+use Rattle.meaning.specs.Limits.{heldLimit, nodeLimit}
+use Rattle.meaning.specs.Limits.Laws.{held-is, node-limit-is}
 use Rattle.plan.specs.Plan.{Plan}
 use Rattle.engine.specs.Quick.{Frame, Waiting, State, metAt, possAt, wentIf, Cut, cut, stay, closingFrom, closingAt, closing, closes, quickClose}
 use Rattle.engine.specs.Quick.Lists.{cut-append}
@@ -28,7 +30,7 @@ use Rattle.engine.specs.Quick.Snoc.{went-le, stay-le}
 use Rattle.records.specs.Write.{buffer}
 use Rattle.element.specs.Element.{Elements, noFrame, frameAt}
 use Rattle.elements.specs.Elements.Laws.{possible-front}
-use Rattle.node.specs.Node.{mostHeld, Queue}
+use Rattle.node.specs.Node.{Queue}
 use Rattle.nodes.specs.Nodes.{with, levelOf, numbers, Moved, movedBy, movedFrom, Handed, handedOut}
 use Rattle.numbers.specs.Numbers.{Numbers}
 use Rattle.step.specs.Step.{CloseFits, closeNumbers, movedOut, closeWith, closeOut, closeBy, closeTaken}
@@ -47,7 +49,7 @@ ltb-add a x y = go (decLt x y)
     go (yes l) = lt-ltb (a + x) (a + y) (omega arith) ∙ sym (lt-ltb x y l)
     go (no f) = let h : y ≤ x = omega arith in le-ltb (a + x) (a + y) (omega arith) ∙ sym (le-ltb x y h)
 
-byte-read : (b : Bool) → not (eqb (boolByte b) 0) ≡ b
+pub byte-read : (b : Bool) → not (eqb (boolByte b) 0) ≡ b
 byte-read true = refl
 byte-read false = refl
 
@@ -151,7 +153,7 @@ module _ (P : Plan) (n : Numbers) (E : Elements) (N : Queue) (room : Roomy E N) 
   Q-took : take left (Q .list) ≡ waiting
   Q-took = take-at waiting (drop left (N .list)) left waiting-length
 
-  Q-length : length (Q .list) ≡ mostHeld
+  Q-length : length (Q .list) ≡ heldLimit
   Q-length =
       length-append waiting (drop left (N .list)) ∙ omega (arith, waiting-length, length-drop left (N .list), left-few, fits .held, room .nodes)
 
@@ -163,7 +165,7 @@ module _ (P : Plan) (n : Numbers) (E : Elements) (N : Queue) (room : Roomy E N) 
   went-few : went ≤ left
   went-few = subst (λ k. went ≤ k) waiting-length (went-le _ P _ waiting)
 
-  module _ (out : List ℕ) (before : n .handed ≤ 16777215) where
+  module _ (out : List ℕ) (before : n .handed ≤ nodeLimit) where
     abbrev h : Handed
     h = handedOut went left Q out
 
@@ -176,8 +178,7 @@ module _ (P : Plan) (n : Numbers) (E : Elements) (N : Queue) (room : Roomy E N) 
 
     -- the counter of the nodes handed out does not wrap
     handed-is : (n .handed + went) % 2 ^ 32 ≡ n .handed + length (take went waiting)
-    unfolding mostHeld
-    handed-is = mod-eq-of-lt (omega (arith, went-few, left-few, fits .held)) ∙ ap (λ k. n .handed + k) (sym gone)
+    handed-is = mod-eq-of-lt (omega (arith, held-is, node-limit-is, went-few, left-few, fits .held)) ∙ ap (λ k. n .handed + k) (sym gone)
 
     with-takes :
         Takes (closes s (record { frames = take (n .depth - 1) (E .list); waiting = waiting; went = went })) (closeWith n E left went h) out

@@ -3,3 +3,5 @@ pub mod Used
 pub mod Opens
 pub mod Closes
 pub mod Right
+pub mod Small
+pub mod Rooms

@@ -18,13 +18,15 @@ use lib.Seq.{take-at, take-take, length-take-le}
 use borrow.Author.Tests.{eqb-true, leb-false}
 use Rattle.choice.specs.Pick.{pick, never}
 use Rattle.choice.specs.Count.{boolByte-le}
+use Rattle.meaning.specs.Limits.{heldLimit, nodeLimit}
+use Rattle.meaning.specs.Limits.Laws.{held-is, node-limit-is}
 use Rattle.plan.specs.Plan.{Plan}
 use Rattle.engine.specs.Quick.{Waiting, State, Opening, opening, openingFrom, judged, over, newcomer, queueAfter, outAfter, opens, quickOpen}
 use Rattle.engine.specs.Quick.Snoc.{framesAfter-length, went-le}
 use Rattle.records.specs.Write.{buffer}
 use Rattle.element.specs.Element.{Elements}
 use Rattle.elements.specs.Elements as elements
-use Rattle.node.specs.Node.{mostHeld, Queue}
+use Rattle.node.specs.Node.{Queue}
 use Rattle.nodes.specs.Nodes.{numbers, Joined, joined, handedOut}
 use Rattle.numbers.specs.Numbers.{Numbers}
 use Rattle.step.specs.Step.{OpenFits, overIn, goingOf, openWith, openBy, openedBy, openingIn, openTaken, openNumbers}
@@ -35,10 +37,10 @@ use Rattle.right.specs.Used.{stateIn, Roomy, Takes, same-state, opening-
 record Ends (ws : List Waiting) (w : Waiting) (out : List ℕ) (all joins : Bool) (k : ℕ) (j : Joined) : Type 0 where
   waits : take (j .held) (j .queue .list) ≡ queueAfter all joins ws w k
   written : j .out ≡ buffer (numbers (outAfter all ws w k)) out
-  many : length (j .queue .list) ≡ mostHeld
-  few : j .held ≤ mostHeld
+  many : length (j .queue .list) ≡ heldLimit
+  few : j .held ≤ heldLimit
 
-module _ (N : Queue) (held : ℕ) (many : length (N .list) ≡ mostHeld) (few : held ≤ mostHeld) (number level : ℕ) (out : List ℕ) where
+module _ (N : Queue) (held : ℕ) (many : length (N .list) ≡ heldLimit) (few : held ≤ heldLimit) (number level : ℕ) (out : List ℕ) where
   abbrev ws : List Waiting
   ws = take held (N .list)
 
@@ -49,7 +51,7 @@ module _ (N : Queue) (held : ℕ) (many : length (N .list) ≡ mostHeld) (few : 
   ws-length = length-take-le held (N .list) (omega arith)
 
   join-ends :
-      (all joins : Bool) (k : ℕ) → k ≤ held → (all ≡ true → k ≡ held) → (all ≡ false → joins ≡ true → held - k < mostHeld) →
+      (all joins : Bool) (k : ℕ) → k ≤ held → (all ≡ true → k ≡ held) → (all ≡ false → joins ≡ true → held - k < heldLimit) →
       Ends ws w out all joins k (joined (record { went = k; all = all; joins = joins }) held number level N out)
   unfolding joined pick handedOut queueAfter outAfter
   join-ends true joins k h whole free =
@@ -62,7 +64,7 @@ module _ (N : Queue) (held : ℕ) (many : length (N .list) ≡ mostHeld) (few : 
         few = omega arith;
       }
   join-ends false true k h whole free =
-      let room : held - k < mostHeld = free refl refl in
+      let room : held - k < heldLimit = free refl refl in
       record {
         waits = joined-took N k held (omega arith) h number level (omega arith);
         written = ap (λ l. buffer (numbers l) out) (sym (take-take k held (N .list) h));
@@ -94,7 +96,7 @@ not-over true joins b h e₁ e₂ = never (sym e₁)
 not-over false false b h e₁ e₂ = never e₂
 
 module _ (P : Plan) (x : ℕ) (n : Numbers) (E : Elements) (N : Queue) (out : List ℕ) (room : Roomy E N) (fits : OpenFits n)
-    (before : n .handed ≤ 16777215) (place : overIn P x (n .depth) (n .held) E N ≡ false) where
+    (before : n .handed ≤ nodeLimit) (place : overIn P x (n .depth) (n .held) E N ≡ false) where
   abbrev s : State
   s = stateIn n E N
 
@@ -119,11 +121,11 @@ module _ (P : Plan) (x : ℕ) (n : Numbers) (E : Elements) (N : Queue) (out : Li
   unfolding opening openingFrom judged stateIn
   all-whole h = eqb-true _ _ (and-left _ _ h) ∙ waiting
 
-  has-room : o .all ≡ false → o .joins ≡ true → n .held - o .went < mostHeld
+  has-room : o .all ≡ false → o .joins ≡ true → n .held - o .went < heldLimit
   unfolding over stateIn
   has-room e₁ e₂ =
-      subst (λ m. m - o .went < mostHeld) waiting
-      (leb-false mostHeld _ (not-over (o .all) (o .joins) _ (sym (over-used P x n E N) ∙ place) e₁ e₂))
+      subst (λ m. m - o .went < heldLimit) waiting
+      (leb-false heldLimit _ (not-over (o .all) (o .joins) _ (sym (over-used P x n E N) ∙ place) e₁ e₂))
 
   -- the new node
   abbrev new : Waiting
@@ -149,8 +151,7 @@ module _ (P : Plan) (x : ℕ) (n : Numbers) (E : Elements) (N : Queue) (out : Li
   -- the counter of the nodes handed out does not wrap
   handed-is :
       (n .handed + (o .went + boolByte (o .all))) % 2 ^ 32 ≡ n .handed + length (outAfter (o .all) (take (n .held) (N .list)) (newcomer s) (o .went))
-  unfolding mostHeld
-  handed-is = mod-eq-of-lt (omega (arith, went-few, boolByte-le (o .all), fits .held)) ∙ ap (λ k. n .handed + k) given-is
+  handed-is = mod-eq-of-lt (omega (arith, held-is, node-limit-is, went-few, boolByte-le (o .all), fits .held)) ∙ ap (λ k. n .handed + k) given-is
 
   taken-is : openTaken P x n E N out ≡ openWith n (openedBy (n .depth) E o) j
   unfolding openTaken openingIn goingOf

@@ -3,16 +3,15 @@
 --   Stands q d n E N     the numbers n and the records E and N stand for the query q and the document d
 --   Within q d           the document keeps the limits: so does every one that accepted events lead to
 --   newly q d d′         the nodes that d′ lists and d does not
---   stepRefusals q d e   the refusal table for the event e at the document d, from row 2 on
 --   Taken q d d′ out a   what an event comes to that leads from d to d′
---   StepOwed q d e n E N out o a     what the event e comes to, o being the lowest refusal that applies: a refusal leaves all as it was (refuses), an
+--   StepOwed q d e n E N out o a     what the event e comes to, o being the first refusal that applies: a refusal leaves all as it was (refuses), an
 --                        event that none refuses is taken (takes)
 --   stands-begun         numbers that are all 0 stand for the blank document, whatever is in the records
 --   ended-read, opened-read, handed-read, depth-read, held-read      what the numbers of rooms are that stand for a document
 --   waiting-read         and the waiting nodes' numbers
 --   step-right           THE STEP
 --
--- Assumes nothing, not of the buffer's length either: row 1 is the caller's. NOT here: that accepted events stay within the limits.
+-- Assumes that enough is lent: refusals 1 and 15 are the caller's (crate session). NOT here: that accepted events stay within the limits.
 use Prim.Native.Nat.{ℕ, _-_, _≤_, _<_}
 use native.Mathlib.Omega.{arith}
 use mathlib.Core.Path.{_≡_, refl, sym, ap, ap₂, _∙_, subst, subst₂}
@@ -29,7 +28,9 @@ use Rattle.meaning.specs.Query.{Query, admits}
 use Rattle.meaning.specs.Document.{Doc, done as done-row, within, blank, opened, closed, count, depth, isOpen, finished, endsAt}
 use Rattle.meaning.specs.Standing.{listed, held}
 use Rattle.meaning.specs.Stream as Stream
-use Rattle.meaning.specs.Answer.{Refusal, refusal, isBad, isOpening, closesWrong, actIf, lowestOr, lowest}
+use Rattle.meaning.specs.Answer.{Lent, tooSmall, eventRefusals, isBad, isOpening, closesWrong, actIf, firstOr, first}
+use Rattle.meaning.specs.Refusals.{shortOutput, shortRoom, badRecord, afterEnd, wrongClose, tooDeep, tooManyNodes, tooManyHeld}
+use Rattle.meaning.specs.Limits.{depthLimit, heldLimit, nodeLimit, outputNeeded}
 use Rattle.plan.specs.Plan.{Plan, plan}
 use Rattle.engine.specs.Quick.{State, Result, begun, opening, over, nameAt, quickOpen, quickClose}
 use Rattle.engine.specs.Quick.Of.{quickState}
@@ -37,11 +38,11 @@ use Rattle.engine.specs.Quick.Reads.{quick-begun, quick-held, quick-waiting, qu
 use Rattle.engine.specs.Quick.Theorem.{quick-open, quick-open-out, quick-over, quick-close, quick-close-out}
 use Rattle.records.specs.Read.{shown}
 use Rattle.records.specs.Write.{buffer}
-use Rattle.element.specs.Element.{mostOpen, Elements, noFrame, frameAt}
-use Rattle.node.specs.Node.{mostHeld, Queue}
+use Rattle.element.specs.Element.{Elements, noFrame, frameAt}
+use Rattle.node.specs.Node.{Queue}
 use Rattle.nodes.specs.Nodes.{numbers}
 use Rattle.numbers.specs.Numbers.{Numbers, numbersOf}
-use Rattle.step.specs.Step.{nodeLimit, OpenFits, CloseFits, refuseOpen, refuseClose, overIn, After, refusedWith, openTaken, onOpen, closeTaken, onClose, step}
+use Rattle.step.specs.Step.{OpenFits, CloseFits, refuseOpen, refuseClose, overIn, After, refusedWith, openTaken, onOpen, closeTaken, onClose, step}
 use Rattle.right.specs.Used.{stateIn, Roomy, Takes, over-used}
 use Rattle.right.specs.Opens.{open-takes}
 use Rattle.right.specs.Closes.{close-takes}
@@ -49,29 +50,18 @@ use Rattle.right.specs.Closes.{close-takes}
 pub record Stands (q : Query) (d : Doc) (n : Numbers) (E : Elements) (N : Queue) : Type 0 where
   pub state : stateIn n E N ≡ quickState q d
   pub roomy : Roomy E N
-  pub deep : n .depth ≤ mostOpen
-  pub few : n .held ≤ mostHeld
+  pub deep : n .depth ≤ depthLimit
+  pub few : n .held ≤ heldLimit
 
 pub record Within (q : Query) (d : Doc) : Type 0 where
   pub admitted : T (admits q)
   pub steps : length q ≤ 32
-  pub deep : depth d ≤ mostOpen
-  pub few : length (held q d) ≤ mostHeld
-  pub listing : length (listed q d) ≤ 16777215
+  pub deep : depth d ≤ depthLimit
+  pub few : length (held q d) ≤ heldLimit
+  pub listing : length (listed q d) ≤ nodeLimit
 
 abbrev pub newly : Query → Doc → Doc → List ℕ
 newly q d d′ = drop (length (listed q d)) (listed q d′)
-
--- the table of document 01, line by line from line 2 on
-unfoldable pub stepRefusals : Query → Doc → Option Stream.Event → List Refusal
-stepRefusals q d e =
-    refusal 2 (isBad e)
-    ∷ refusal 3 (finished d)
-    ∷ refusal 4 (closesWrong e d)
-    ∷ refusal 5 (isOpening e && leb mostOpen (depth d))
-    ∷ refusal 6 (isOpening e && leb nodeLimit (count d))
-    ∷ refusal 7 (isOpening e && ltb mostHeld (length (held q (actIf e d))))
-    ∷ []
 
 pub record Taken (q : Query) (d d′ : Doc) (out : List ℕ) (a : After) : Type 0 where
   pub refusal : a .refusal ≡ 0
@@ -80,7 +70,7 @@ pub record Taken (q : Query) (d d′ : Doc) (out : List ℕ) (a : After) : Type 
   pub written : a .out ≡ buffer (newly q d d′) out
 
 pub data StepOwed (q : Query) (d : Doc) (e : Option Stream.Event) (n : Numbers) (E : Elements) (N : Queue) (out : List ℕ) : Option ℕ → After → Type 0 where
-  refuses : {r : ℕ} {a : After} → a ≡ refusedWith r n E N out → StepOwed q d e n E N out (some r) a
+  refuses : {r : ℕ} {a : After} → 0 < r → a ≡ refusedWith r n E N out → StepOwed q d e n E N out (some r) a
   takes : {a : After} → Taken q d (actIf e d) out a → StepOwed q d e n E N out none a
 
 pub stands-begun : (q : Query) (E : Elements) (N : Queue) → Roomy E N → Stands q blank (numbersOf 0 0 0 0 0) E N
@@ -155,10 +145,10 @@ taken-right q d d′ out r a t es eo =
 -- the tables, test by test: row 3 applies or not, and so on
 
 abbrev openRows : Bool → Bool → Bool → ℕ
-openRows b₃ b₅ b₆ = pick b₃ 3 (pick b₅ 5 (pick b₆ 6 0))
+openRows b₃ b₅ b₆ = pick b₃ afterEnd (pick b₅ tooDeep (pick b₆ tooManyNodes 0))
 
 abbrev closeRows : Bool → Bool → Bool → ℕ
-closeRows b₃ none-open same = pick b₃ 3 (pick none-open 4 (pick same 0 4))
+closeRows b₃ none-open same = pick b₃ afterEnd (pick none-open wrongClose (pick same 0 wrongClose))
 
 module _ (q : Query) (d : Doc) (e : Option Stream.Event) (n : Numbers) (E : Elements) (N : Queue) (out : List ℕ) where
   abbrev R : ℕ → After
@@ -167,65 +157,82 @@ module _ (q : Query) (d : Doc) (e : Option Stream.Event) (n : Numbers) (E : Elem
   open-table :
       (b₃ b₅ b₆ b₇ : Bool) (a : After) → (b₅ ≡ false → b₆ ≡ false → b₇ ≡ false → Taken q d (actIf e d) out a) →
       StepOwed q d e n E N out
-      (lowestOr false 2 (lowestOr b₃ 3 (lowestOr false 4 (lowestOr b₅ 5 (lowestOr b₆ 6 (lowestOr b₇ 7 none))))))
-      (pick (eqb (openRows b₃ b₅ b₆) 0) (pick b₇ (R 7) a) (R (openRows b₃ b₅ b₆)))
-  unfolding pick lowestOr
-  open-table true b₅ b₆ b₇ a h = refuses refl
-  open-table false true b₆ b₇ a h = refuses refl
-  open-table false false true b₇ a h = refuses refl
-  open-table false false false true a h = refuses refl
+      (firstOr false badRecord
+      (firstOr b₃ afterEnd (firstOr false wrongClose (firstOr b₅ tooDeep (firstOr b₆ tooManyNodes (firstOr b₇ tooManyHeld none))))))
+      (pick (eqb (openRows b₃ b₅ b₆) 0) (pick b₇ (R tooManyHeld) a) (R (openRows b₃ b₅ b₆)))
+  unfolding pick firstOr
+  open-table true b₅ b₆ b₇ a h = refuses {r = afterEnd} (omega arith) refl
+  open-table false true b₆ b₇ a h = refuses {r = tooDeep} (omega arith) refl
+  open-table false false true b₇ a h = refuses {r = tooManyNodes} (omega arith) refl
+  open-table false false false true a h = refuses {r = tooManyHeld} (omega arith) refl
   open-table false false false false a h = takes (h refl refl refl)
 
   close-table :
       (b₃ none-open same : Bool) (a : After) → (none-open ≡ false → Taken q d (actIf e d) out a) →
       StepOwed q d e n E N out
-      (lowestOr false 2
-      (lowestOr b₃ 3 (lowestOr (not (not none-open && same)) 4 (lowestOr false 5 (lowestOr false 6 (lowestOr false 7 none))))))
+      (firstOr false badRecord
+      (firstOr b₃ afterEnd
+      (firstOr (not (not none-open && same)) wrongClose (firstOr false tooDeep (firstOr false tooManyNodes (firstOr false tooManyHeld none))))))
       (pick (eqb (closeRows b₃ none-open same) 0) a (R (closeRows b₃ none-open same)))
-  unfolding pick lowestOr
-  close-table true none-open same a h = refuses refl
-  close-table false true same a h = refuses refl
+  unfolding pick firstOr
+  close-table true none-open same a h = refuses {r = afterEnd} (omega arith) refl
+  close-table false true same a h = refuses {r = wrongClose} (omega arith) refl
   close-table false false true a h = takes (h refl)
-  close-table false false false a h = refuses refl
+  close-table false false false a h = refuses {r = wrongClose} (omega arith) refl
 
 some-open : (e : Doc) → (depth e ≡ 0 → ⊥) → T (isOpen e)
 unfolding depth isOpen
 some-open (done-row f) h = absurd (h refl)
 some-open (within p x e) h = tt
 
-module _ (q : Query) (d : Doc) (w : Within q d) (n : Numbers) (E : Elements) (N : Queue) (st : Stands q d n E N) (out : List ℕ) where
+module _ (q : Query) (d : Doc) (w : Within q d) (n : Numbers) (E : Elements) (N : Queue) (st : Stands q d n E N) (out : List ℕ)
+    (lent : Lent) (wide : ltb (lent .out) outputNeeded ≡ false) (enough : tooSmall (lent .elements) (lent .nodes) ≡ false) where
   abbrev Owed : Option Stream.Event → After → Type 0
-  Owed e a = StepOwed q d e n E N out (lowest (stepRefusals q d e)) a
+  Owed e a = StepOwed q d e n E N out (first (eventRefusals q d e lent)) a
 
-  few : ltb mostHeld (n .held) ≡ false
-  few = le-ltb mostHeld (n .held) (st .few)
+  -- lines 1 and 15 do not apply
+  lent-rows : (o : Option ℕ) → firstOr (ltb (lent .out) outputNeeded) shortOutput (firstOr (tooSmall (lent .elements) (lent .nodes)) shortRoom o) ≡ o
+  unfolding firstOr
+  lent-rows o = ap₂ (λ (a b : Bool). firstOr a shortOutput (firstOr b shortRoom o)) wide enough
 
-  before : n .handed ≤ 16777215
+  owed-rows :
+      (e : Option Stream.Event) (o : Option ℕ) (a : After) → StepOwed q d e n E N out o a →
+      StepOwed q d e n E N out (firstOr (ltb (lent .out) outputNeeded) shortOutput (firstOr (tooSmall (lent .elements) (lent .nodes)) shortRoom o)) a
+  owed-rows e o a h = subst (λ p. StepOwed q d e n E N out p a) (sym (lent-rows o)) h
+
+  few : ltb heldLimit (n .held) ≡ false
+  few = le-ltb heldLimit (n .held) (st .few)
+
+  before : n .handed ≤ nodeLimit
   before = omega (arith, handed-read q d n E N st, w .listing)
 
   -- an open
 
-  over-is : (x : ℕ) → overIn (plan q) x (n .depth) (n .held) E N ≡ ltb mostHeld (length (held q (opened (record { name = x }) d)))
+  over-is : (x : ℕ) → overIn (plan q) x (n .depth) (n .held) E N ≡ ltb heldLimit (length (held q (opened (record { name = x }) d)))
   over-is x =
       over-used (plan q) x n E N
-      ∙ ap (λ s. over mostHeld s (opening (plan q) x s)) (st .state)
-      ∙ quick-over q (w .admitted) (record { name = x }) d mostHeld (w .few)
+      ∙ ap (λ s. over heldLimit s (opening (plan q) x s)) (st .state)
+      ∙ quick-over q (w .admitted) (record { name = x }) d heldLimit (w .few)
 
-  open-rows : refuseOpen n ≡ openRows (finished d) (leb mostOpen (depth d)) (leb nodeLimit (count d))
+  open-rows : refuseOpen n ≡ openRows (finished d) (leb depthLimit (depth d)) (leb nodeLimit (count d))
   unfolding refuseOpen pick
   open-rows =
-      ap₂ (λ b k. pick b 3 (pick (leb mostOpen k) 5 (pick (leb nodeLimit (n .opened)) 6 (pick (ltb mostHeld (n .held)) 7 0))))
+      ap₂
+      (λ b k.
+      pick b afterEnd (pick (leb depthLimit k) tooDeep (pick (leb nodeLimit (n .opened)) tooManyNodes (pick (ltb heldLimit (n .held)) tooManyHeld 0))))
       (ended-read q d n E N st) (depth-read q d n E N st)
-      ∙ ap₂ (λ k b. pick (finished d) 3 (pick (leb mostOpen (depth d)) 5 (pick (leb nodeLimit k) 6 (pick b 7 0)))) (opened-read q d n E N st) few
+      ∙ ap₂
+      (λ k b. pick (finished d) afterEnd (pick (leb depthLimit (depth d)) tooDeep (pick (leb nodeLimit k) tooManyNodes (pick b tooManyHeld 0))))
+      (opened-read q d n E N st) few
 
   open-taken :
-      (x : ℕ) → leb mostOpen (depth d) ≡ false → leb nodeLimit (count d) ≡ false →
-      ltb mostHeld (length (held q (opened (record { name = x }) d))) ≡ false →
+      (x : ℕ) → leb depthLimit (depth d) ≡ false → leb nodeLimit (count d) ≡ false →
+      ltb heldLimit (length (held q (opened (record { name = x }) d))) ≡ false →
       Taken q d (opened (record { name = x }) d) out (openTaken (plan q) x n E N out)
   open-taken x e₅ e₆ e₇ =
       let fits : OpenFits n =
       record {
-        deep = omega (arith, leb-false mostOpen (depth d) e₅, depth-read q d n E N st);
+        deep = omega (arith, leb-false depthLimit (depth d) e₅, depth-read q d n E N st);
         few = omega (arith, leb-false nodeLimit (count d) e₆, opened-read q d n E N st);
         held = st .few;
       } in
@@ -235,13 +242,14 @@ module _ (q : Query) (d : Doc) (w : Within q d) (n : Numbers) (E : Elements) (N 
       (ap (λ s. listed q d ++ quickOpen (plan q) x s .out) (st .state) ∙ quick-open-out q (w .admitted) (record { name = x }) d)
 
   open-right : (x : ℕ) → Owed (some (Stream.opens x)) (onOpen (plan q) x n E N out)
-  unfolding onOpen lowest stepRefusals isBad isOpening closesWrong actIf Stream.act
+  unfolding onOpen first eventRefusals isBad isOpening closesWrong actIf Stream.act
   open-right x =
       subst (Owed (some (Stream.opens x)))
       (sym
-      (ap₂ (λ r b. pick (eqb r 0) (pick b (refusedWith 7 n E N out) (openTaken (plan q) x n E N out)) (refusedWith r n E N out)) open-rows (over-is x)))
-      (open-table q d (some (Stream.opens x)) n E N out (finished d) (leb mostOpen (depth d)) (leb nodeLimit (count d))
-      (ltb mostHeld (length (held q (opened (record { name = x }) d)))) (openTaken (plan q) x n E N out) (open-taken x))
+      (ap₂ (λ r b. pick (eqb r 0) (pick b (refusedWith tooManyHeld n E N out) (openTaken (plan q) x n E N out)) (refusedWith r n E N out)) open-rows (over-is x)))
+      (owed-rows (some (Stream.opens x)) _ _
+      (open-table q d (some (Stream.opens x)) n E N out (finished d) (leb depthLimit (depth d)) (leb nodeLimit (count d))
+      (ltb heldLimit (length (held q (opened (record { name = x }) d)))) (openTaken (plan q) x n E N out) (open-taken x)))
 
   -- a close
 
@@ -249,9 +257,10 @@ module _ (q : Query) (d : Doc) (w : Within q d) (n : Numbers) (E : Elements) (N 
   unfolding refuseClose pick
   close-rows x =
       let same : Bool = eqb (frameAt E (n .depth - 1) .name) x in
-      ap (λ b. pick b 3 (pick (eqb (n .depth) 0) 4 (pick (ltb mostOpen (n .depth)) 4 (pick same (pick (ltb mostHeld (n .held)) 7 0) 4))))
-      (ended-read q d n E N st)
-      ∙ ap₂ (λ b c. pick (finished d) 3 (pick (eqb (n .depth) 0) 4 (pick b 4 (pick same (pick c 7 0) 4)))) (le-ltb mostOpen (n .depth) (st .deep)) few
+      let rows : Bool → Bool → Bool → ℕ =
+      λ (a b c : Bool). pick a afterEnd (pick (eqb (n .depth) 0) wrongClose (pick b wrongClose (pick same (pick c tooManyHeld 0) wrongClose))) in
+      ap (λ a. rows a (ltb depthLimit (n .depth)) (ltb heldLimit (n .held))) (ended-read q d n E N st)
+      ∙ ap₂ (λ b c. rows (finished d) b c) (le-ltb depthLimit (n .depth) (st .deep)) few
 
   close-taken : eqb (n .depth) 0 ≡ false → Taken q d (closed d) out (closeTaken (plan q) n E N out)
   close-taken z =
@@ -264,20 +273,22 @@ module _ (q : Query) (d : Doc) (w : Within q d) (n : Numbers) (E : Elements) (N 
       (ap (λ s. listed q d ++ quickClose (plan q) s .out) (st .state) ∙ quick-close-out q (w .admitted) d some-is)
 
   close-right : (x : ℕ) → Owed (some (Stream.closes x)) (onClose (plan q) x n E N out)
-  unfolding onClose lowest stepRefusals isBad isOpening closesWrong actIf Stream.act
+  unfolding onClose first eventRefusals isBad isOpening closesWrong actIf Stream.act
   close-right x =
-      subst₂
+      owed-rows (some (Stream.closes x)) _ _
+      (subst₂
       (λ b a.
       StepOwed q d (some (Stream.closes x)) n E N out
-      (lowestOr false 2 (lowestOr (finished d) 3 (lowestOr (not b) 4 (lowestOr false 5 (lowestOr false 6 (lowestOr false 7 none)))))) a)
+      (firstOr false badRecord
+      (firstOr (finished d) afterEnd (firstOr (not b) wrongClose (firstOr false tooDeep (firstOr false tooManyNodes (firstOr false tooManyHeld none)))))) a)
       (sym (ends-read q d n E N st x))
       (sym (ap (λ r. pick (eqb r 0) (closeTaken (plan q) n E N out) (refusedWith r n E N out)) (close-rows x)))
       (close-table q d (some (Stream.closes x)) n E N out (finished d) (eqb (n .depth) 0) (eqb (frameAt E (n .depth - 1) .name) x)
-      (closeTaken (plan q) n E N out) close-taken)
+      (closeTaken (plan q) n E N out) close-taken))
 
-  bad-right : Owed none (refusedWith 2 n E N out)
-  unfolding lowest lowestOr stepRefusals isBad
-  bad-right = refuses refl
+  bad-right : Owed none (refusedWith badRecord n E N out)
+  unfolding first firstOr eventRefusals isBad
+  bad-right = owed-rows none (some badRecord) _ (refuses {r = badRecord} (omega arith) refl)
 
   any-right : (e : Option Stream.Event) → Owed e (step (plan q) (shown e) n E N out)
   unfolding step
@@ -287,5 +298,5 @@ module _ (q : Query) (d : Doc) (w : Within q d) (n : Numbers) (E : Elements) (N 
 
   -- THE STEP
   pub step-right :
-      (P : Plan) → P ≡ plan q → (e : Option Stream.Event) → StepOwed q d e n E N out (lowest (stepRefusals q d e)) (step P (shown e) n E N out)
+      (P : Plan) → P ≡ plan q → (e : Option Stream.Event) → StepOwed q d e n E N out (first (eventRefusals q d e lent)) (step P (shown e) n E N out)
   step-right P p e = subst (λ K. Owed e (step K (shown e) n E N out)) (sym p) (any-right e)

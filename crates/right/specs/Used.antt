@@ -15,11 +15,12 @@ use mathlib.Core.Bool.{Bool, not}
 use mathlib.Core.List.{List}
 use lib.Dec.{eqb}
 use lib.ListN.{length, take}
+use Rattle.meaning.specs.Limits.{depthLimit, heldLimit}
 use Rattle.plan.specs.Plan.{Plan}
 use Rattle.engine.specs.Quick.{Frame, Waiting, State, Result, opening, openingFrom, judged, over}
 use Rattle.records.specs.Write.{buffer}
-use Rattle.element.specs.Element.{mostOpen, Elements}
-use Rattle.node.specs.Node.{mostHeld, Queue}
+use Rattle.element.specs.Element.{Elements}
+use Rattle.node.specs.Node.{Queue}
 use Rattle.numbers.specs.Numbers.{Numbers}
 use Rattle.step.specs.Step.{usedIn, overIn, After}
 
@@ -41,8 +42,8 @@ pub same-state :
 same-state e₁ e₂ e₃ e₄ e₅ = λ i. record { frames = e₁ i; queue = e₂ i; opened = e₃ i; handed = e₄ i; ended = e₅ i }
 
 pub record Roomy (E : Elements) (N : Queue) : Type 0 where
-  pub elements : length (E .list) ≡ mostOpen
-  pub nodes : length (N .list) ≡ mostHeld
+  pub elements : length (E .list) ≡ depthLimit
+  pub nodes : length (N .list) ≡ heldLimit
 
 pub record Takes (r : Result) (a : After) (out : List ℕ) : Type 0 where
   pub refusal : a .refusal ≡ 0
@@ -50,14 +51,14 @@ pub record Takes (r : Result) (a : After) (out : List ℕ) : Type 0 where
   pub given : a .given ≡ length (r .out)
   pub written : a .out ≡ buffer (r .out) out
   pub roomy : Roomy (a .elements) (a .nodes)
-  pub deep : a .numbers .depth ≤ mostOpen
-  pub few : a .numbers .held ≤ mostHeld
+  pub deep : a .numbers .depth ≤ depthLimit
+  pub few : a .numbers .held ≤ heldLimit
 
 module _ (P : Plan) (x : ℕ) (n : Numbers) (E : Elements) (N : Queue) where
   pub opening-used : opening P x (usedIn (n .depth) (n .held) E N) ≡ opening P x (stateIn n E N)
   unfolding opening openingFrom judged usedIn stateIn
   opening-used = refl
 
-  pub over-used : overIn P x (n .depth) (n .held) E N ≡ over mostHeld (stateIn n E N) (opening P x (stateIn n E N))
+  pub over-used : overIn P x (n .depth) (n .held) E N ≡ over heldLimit (stateIn n E N) (opening P x (stateIn n E N))
   unfolding overIn over opening openingFrom judged usedIn stateIn
   over-used = refl

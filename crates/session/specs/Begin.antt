@@ -1,7 +1,6 @@
 -- How a session begins.
 --
 --   fresh plan        the session for a plan, at the start of its stream
---   shortRoom E N     the lent room is too small
 --   said a            the answer that a case of `Start` stands for, in document 01's numbers: 15 where the room is too small, else the query's
 --   Begun             what begin answers, in document 01's numbers, and the session beside it
 --   answerOf q E N    the answer to the bytes q with the room E and N lent
@@ -13,18 +12,17 @@
 pub mod Laws
 use Prim.Native.Nat.{ℕ}
 use mathlib.Core.Path.{_≡_}
-use mathlib.Core.Bool.{Bool, true, false}
+use mathlib.Core.Bool.{false}
 use mathlib.Core.List.{List, []}
-use lib.Dec.{ltb}
 use lib.ListN.{length}
 use Rattle.choice.specs.Pick.{pick}
+use Rattle.meaning.specs.Refusals.{shortRoom, badLength, badStep}
+use Rattle.meaning.specs.Answer.{tooSmall}
 use Rattle.plan.specs.declared.Plan.{Plan}
 use Rattle.plan.specs.Planned.{planOf}
 use Rattle.plan_bytes.specs.Kept.{packed}
 use Rattle.words.specs.Words.{bytesOf}
 use Rattle.query.specs.Answer.{Answer, admitted, refused, refusedAt, answerTo}
-use Rattle.element.specs.Element.{elementsRoom}
-use Rattle.node.specs.Node.{nodesRoom}
 use Rattle.session.specs.declared.Begun as given
 use Rattle.session.specs.declared.Session.{Session}
 use Rattle.session.specs.declared.Start as start
@@ -33,15 +31,11 @@ use Rattle.session.specs.declared.Start.the-variants as started
 unfoldable pub fresh : Plan → Session
 fresh plan = record { kept = bytesOf (packed plan); depth = 0; held = 0; opened = 0; handed = 0; ended = false }
 
--- "a buffer is too small exactly when it is under that size times the limit it serves"
-unfoldable pub shortRoom : List ℕ → List ℕ → Bool
-shortRoom E N = pick (ltb (length E) elementsRoom) true (ltb (length N) nodesRoom)
-
 unfoldable pub said : start.Start → Answer
 said started.Begun = admitted
-said started.ShortRoom = refused 15
-said started.BadLength = refused 9
-said (started.BadStep k) = refusedAt 10 k
+said started.ShortRoom = refused shortRoom
+said started.BadLength = refused badLength
+said (started.BadStep k) = refusedAt badStep k
 
 pub record Begun : Type 0 where
   pub answer : Answer
@@ -49,7 +43,7 @@ pub record Begun : Type 0 where
 
 -- "15 comes before 9 and 10"
 unfoldable pub answerOf : List ℕ → List ℕ → List ℕ → Answer
-answerOf q E N = pick (shortRoom E N) (refused 15) (answerTo q)
+answerOf q E N = pick (tooSmall (length E) (length N)) (refused shortRoom) (answerTo q)
 
 -- "beside a refused query's number stands one fixed blank session": that of no steps
 unfoldable pub sessionFor : Answer → List ℕ → Session

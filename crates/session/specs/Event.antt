@@ -22,12 +22,11 @@ use lib.Dec.{eqb, ltb}
 use lib.ListN.{length, take, drop}
 use Rattle.choice.specs.Pick.{pick}
 use Rattle.meaning.specs.Answer as meaning
-use Rattle.element.specs.Element.{elementsRoom}
-use Rattle.node.specs.Node.{nodesRoom}
+use Rattle.meaning.specs.Limits.{outputNeeded, elementsNeeded, nodesNeeded}
+use Rattle.meaning.specs.Refusals.{shortOutput, shortRoom, unfinished}
 use Rattle.numbers.specs.Numbers as numbers
 use Rattle.numbers.specs.Numbers.{Numbers}
 use Rattle.plan_bytes.specs.Kept.{keptIn}
-use Rattle.step.specs.Step.{outputNeeded}
 use Rattle.feed.specs.Fed.{Came}
 use Rattle.feed.specs.Steps.{Seat, seat, stepAt}
 use Rattle.session.specs.declared.Session.{Session}
@@ -36,7 +35,6 @@ use Rattle.session.specs.declared.Answer.the-variants.{Refused, Taken}
 use Rattle.session.specs.declared.Step.{Step}
 use Rattle.session.specs.declared.Finish as finished
 use Rattle.session.specs.declared.Finish.the-variants as finishing
-use Rattle.session.specs.Begin.{shortRoom}
 use Rattle.session.specs.Told.{told, ended}
 
 pub record Done : Type 0 where
@@ -85,17 +83,17 @@ beside E N d =
     record {
       answer = d .answer;
       session = d .session;
-      elements = d .elements ++ drop elementsRoom E;
-      nodes = d .nodes ++ drop nodesRoom N;
+      elements = d .elements ++ drop elementsNeeded E;
+      nodes = d .nodes ++ drop nodesNeeded N;
       out = d .out;
     }
 
 -- "1: output buffer under 4,100 bytes", "15 comes directly after 1 and before all others"
 unfoldable pub event : Session → List ℕ → List ℕ → List ℕ → List ℕ → Done
 event s bytes E N out =
-    pick (ltb (length out) outputNeeded) (refused 1 s E N out)
-    (pick (shortRoom E N) (refused 15 s E N out)
-    (beside E N (within s bytes (take elementsRoom E) (take nodesRoom N) out)))
+    pick (ltb (length out) outputNeeded) (refused shortOutput s E N out)
+    (pick (meaning.tooSmall (length E) (length N)) (refused shortRoom s E N out)
+    (beside E N (within s bytes (take elementsNeeded E) (take nodesNeeded N) out)))
 
 -- the same in document 01's numbers and values
 pub record ToldDone : Type 0 where
@@ -116,7 +114,7 @@ EventGives s bytes E N out r E′ N′ out′ = toldAs (r .answer) (r .session) 
 
 -- "8: no document element yet, or it is still open"
 unfoldable pub finish : Session → finished.Finish
-finish s = pick (s .ended) (finishing.Ended (s .opened) (s .handed)) (finishing.Refused 8)
+finish s = pick (s .ended) (finishing.Ended (s .opened) (s .handed)) (finishing.Refused unfinished)
 
 abbrev pub FinishGives : Session → finished.Finish → Type 0
 FinishGives s r = ended r ≡ ended (finish s)

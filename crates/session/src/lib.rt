@@ -3,10 +3,8 @@
 ghost use mathlib.Core.Path.{_≡_};
 ghost use Prim.Native.Nat.{_*_, _≤_};
 ghost use lib.ListN.{length};
-ghost use Rattle.element.specs.Element.{elementsRoom};
-ghost use Rattle.node.specs.Node.{nodesRoom};
+ghost use Rattle.meaning.specs.Limits.{outputNeeded, elementsNeeded, nodesNeeded};
 ghost use Rattle.numbers.specs.Numbers.{numbersRoom, numbersIn};
-ghost use Rattle.step.specs.Step.{outputNeeded};
 ghost use Rattle.session.specs.Begin.{fresh, BeginGives};
 ghost use Rattle.session.specs.Event.{numbersOf, withNumbers, within, EventGives, FinishGives};
 ghost use Rattle.session.specs.Run.{ran, runWithin, RunGives};
@@ -154,7 +152,7 @@ impl Session {
 
     // An event on the room that is needed, with enough of a buffer.
     fn within(self, bytes: &[u8], elements: &mut [u8], nodes: &mut [u8], out: &mut [u8]) -> Step
-        requires { ⌜ (length (now elements) ≡ elementsRoom) × ((length (now nodes) ≡ nodesRoom) × (outputNeeded ≤ length (now out))) ⌝ }
+        requires { ⌜ (length (now elements) ≡ elementsNeeded) × ((length (now nodes) ≡ nodesNeeded) × (outputNeeded ≤ length (now out))) ⌝ }
         ensures { λ r. ⌜ record { answer = r .answer; session = r .session; elements = now (elements .exit); nodes = now (nodes .exit); out = now (out .exit) }
             ≡ within self (now (bytes .entry)) (now (elements .entry)) (now (nodes .entry)) (now (out .entry)) ⌝ }
     {
@@ -220,7 +218,7 @@ impl Session {
 
     // A block on the room that is needed.
     fn run_within(self, events: &[u8], elements: &mut [u8], nodes: &mut [u8], out: &mut [u8]) -> Ran
-        requires { ⌜ (length (now elements) ≡ elementsRoom) × (length (now nodes) ≡ nodesRoom) ⌝ }
+        requires { ⌜ (length (now elements) ≡ elementsNeeded) × (length (now nodes) ≡ nodesNeeded) ⌝ }
         ensures { λ r. ⌜ ran r (now (elements .exit)) (now (nodes .exit)) (now (out .exit))
             ≡ runWithin self (now (events .entry)) (now (elements .entry)) (now (nodes .entry)) (now (out .entry)) ⌝ }
         ensures { λ r. ⌜ (8 * r .taken ≤ length (now (events .entry))) × (4 * r .listed ≤ length (now (out .exit))) ⌝ }

@@ -1,7 +1,6 @@
 -- What one event does to the session's numbers, both lent rooms and the buffer, for all their values: the engine's own functions (crate engine, Quick) on
 -- the records in use, the others as they were.
 --
---   outputNeeded              the least length of the output buffer
 --   OpenFits n, CloseFits n   what is known of the numbers where no refusal by them applies
 --   refuseOpen n, refuseClose n E x      the lowest refusal that the numbers, and for a close of x the innermost name, decide; 0 for none
 --   usedIn depth held E N     the engine's state of the records in use
@@ -17,7 +16,7 @@
 --   step P e n E N out        the event e
 --
 -- Numbers that no calls lead to may be past every limit: an open or a close is then refused too, so that no record is left.
--- Assumes nothing. NOT here: that the engine's state is what the rooms then hold (Step.Engine).
+-- Assumes nothing. NOT here: that the engine's state is what the rooms then hold (crate right).
 pub mod Laws
 pub mod Left
 use Prim.Native.Nat.{ℕ, _+_, _-_, _*_, _%_, _^_, _≤_, _<_}
@@ -27,49 +26,44 @@ use mir.Val.{boolByte}
 use lib.Dec.{eqb, leb, ltb}
 use lib.ListN.{length, take, drop}
 use Rattle.choice.specs.Pick.{pick}
+use Rattle.meaning.specs.Limits.{depthLimit, heldLimit, nodeLimit}
+use Rattle.meaning.specs.Refusals.{badRecord, afterEnd, wrongClose, tooDeep, tooManyNodes, tooManyHeld}
 use Rattle.records.specs.declared.Event.{Event}
 use Rattle.records.specs.declared.Event.the-variants.{Open, Close, Bad}
 use Rattle.plan.specs.Plan.{Plan}
 use Rattle.engine.specs.Quick.{State, Opening, opening, over, possAt, cut, wentIf}
-use Rattle.element.specs.Element.{mostOpen, Elements, frameAt}
+use Rattle.element.specs.Element.{Elements, frameAt}
 use Rattle.elements.specs.Elements as elements
-use Rattle.node.specs.Node.{mostHeld, Queue}
+use Rattle.node.specs.Node.{Queue}
 use Rattle.nodes.specs.declared.Going.{Going}
 use Rattle.nodes.specs.Nodes.{levelOf, Moved, movedFrom, Handed, handedOut, Joined, joined}
 use Rattle.numbers.specs.Numbers.{Numbers, numbersOf}
 
--- a list record has 4 bytes, and all held nodes and the newly opened one can go at once
-unfoldable pub outputNeeded : ℕ
-outputNeeded = 4 * mostHeld + 4
-
-abbrev pub nodeLimit : ℕ
-nodeLimit = 16777215
-
 -- "3: the document element has been closed", "5: an open at depth 256", "6: an open when 16,777,215 nodes have been opened"
 unfoldable pub refuseOpen : Numbers → ℕ
 refuseOpen n =
-    pick (not (eqb (n .ended) 0)) 3
-    (pick (leb mostOpen (n .depth)) 5
-    (pick (leb nodeLimit (n .opened)) 6
-    (pick (ltb mostHeld (n .held)) 7 0)))
+    pick (not (eqb (n .ended) 0)) afterEnd
+    (pick (leb depthLimit (n .depth)) tooDeep
+    (pick (leb nodeLimit (n .opened)) tooManyNodes
+    (pick (ltb heldLimit (n .held)) tooManyHeld 0)))
 
 pub record OpenFits (n : Numbers) : Type 0 where
-  pub deep : n .depth < mostOpen
+  pub deep : n .depth < depthLimit
   pub few : n .opened < nodeLimit
-  pub held : n .held ≤ mostHeld
+  pub held : n .held ≤ heldLimit
 
 -- "3: the document element has been closed", "4: a close with nothing open, or with another name than the innermost open element"
 unfoldable pub refuseClose : Numbers → Elements → ℕ → ℕ
 refuseClose n E x =
-    pick (not (eqb (n .ended) 0)) 3
-    (pick (eqb (n .depth) 0) 4
-    (pick (ltb mostOpen (n .depth)) 4
-    (pick (eqb (frameAt E (n .depth - 1) .name) x) (pick (ltb mostHeld (n .held)) 7 0) 4)))
+    pick (not (eqb (n .ended) 0)) afterEnd
+    (pick (eqb (n .depth) 0) wrongClose
+    (pick (ltb depthLimit (n .depth)) wrongClose
+    (pick (eqb (frameAt E (n .depth - 1) .name) x) (pick (ltb heldLimit (n .held)) tooManyHeld 0) wrongClose)))
 
 pub record CloseFits (n : Numbers) : Type 0 where
   pub some : 0 < n .depth
-  pub deep : n .depth ≤ mostOpen
-  pub held : n .held ≤ mostHeld
+  pub deep : n .depth ≤ depthLimit
+  pub held : n .held ≤ heldLimit
 
 unfoldable pub usedIn : ℕ → ℕ → Elements → Queue → State
 usedIn depth held E N = record { frames = take depth (E .list); queue = take held (N .list); opened = 0; handed = 0; ended = false }
@@ -92,11 +86,11 @@ unfoldable pub allGo : ℕ → ℕ → Bool → Bool
 allGo went held certain = pick certain (eqb went held) false
 
 unfoldable pub noPlace : Bool → Bool → ℕ → ℕ → Bool
-noPlace all joins went held = pick all false (pick joins (leb mostHeld (held - went)) false)
+noPlace all joins went held = pick all false (pick joins (leb heldLimit (held - went)) false)
 
 -- "7: an open after which more than 1,024 nodes would be held"
 unfoldable pub overIn : Plan → ℕ → ℕ → ℕ → Elements → Queue → Bool
-overIn P x depth held E N = over mostHeld (usedIn depth held E N) (opening P x (usedIn depth held E N))
+overIn P x depth held E N = over heldLimit (usedIn depth held E N) (opening P x (usedIn depth held E N))
 
 pub record After : Type 0 where
   pub refusal : ℕ
@@ -131,7 +125,7 @@ openTaken P x n E N out = openBy n N out (openingIn P x (n .depth) (n .held) E N
 unfoldable pub onOpen : Plan → ℕ → Numbers → Elements → Queue → List ℕ → After
 onOpen P x n E N out =
     pick (eqb (refuseOpen n) 0)
-    (pick (overIn P x (n .depth) (n .held) E N) (refusedWith 7 n E N out) (openTaken P x n E N out))
+    (pick (overIn P x (n .depth) (n .held) E N) (refusedWith tooManyHeld n E N out) (openTaken P x n E N out))
     (refusedWith (refuseOpen n) n E N out)
 
 -- a close, by the nodes that still wait and how many of them go
@@ -168,4 +162,4 @@ onClose P x n E N out =
 unfoldable pub step : Plan → Event → Numbers → Elements → Queue → List ℕ → After
 step P (Open x) n E N out = onOpen P x n E N out
 step P (Close x) n E N out = onClose P x n E N out
-step P Bad n E N out = refusedWith 2 n E N out
+step P Bad n E N out = refusedWith badRecord n E N out

@@ -4,14 +4,15 @@ ghost use mathlib.Core.Path.{_≡_};
 ghost use Prim.Native.Nat.{_*_, _≤_, _<_};
 ghost use lib.ListN.{length};
 ghost use Rattle.meaning.specs.Record.{eventOf};
+ghost use Rattle.meaning.specs.Limits.{depthLimit, heldLimit, outputNeeded, elementsNeeded, nodesNeeded};
 ghost use Rattle.records.specs.Read.{shown};
 ghost use Rattle.engine.specs.Quick.{over, opening};
 ghost use Rattle.plan.specs.Plan.{lastGiven, named};
-ghost use Rattle.element.specs.Element.{mostOpen, elementsRoom, elementsIn};
-ghost use Rattle.node.specs.Node.{mostHeld, nodesRoom, queueIn};
+ghost use Rattle.element.specs.Element.{elementsIn};
+ghost use Rattle.node.specs.Node.{queueIn};
 ghost use Rattle.plan_bytes.specs.Kept.{planRoom, keptIn};
 ghost use Rattle.numbers.specs.Numbers.{numbersRoom, numbersIn};
-ghost use Rattle.step.specs.Step.{outputNeeded, OpenFits, CloseFits, refuseOpen, refuseClose, openingIn, allGo, noPlace, overIn};
+ghost use Rattle.step.specs.Step.{OpenFits, CloseFits, refuseOpen, refuseClose, openingIn, allGo, noPlace, overIn};
 ghost use Rattle.step.specs.Step.{openNumbers, closeNumbers, movedOut, after, onOpen, onClose, step};
 use nodes::Going;
 use records::Event;
@@ -53,7 +54,7 @@ fn refuse_open(numbers: &[u8]) -> u8
 
 // The same for a close of `x`.
 fn refuse_close(numbers: &[u8], elements: &[u8], x: u32) -> u8
-    requires { ⌜ (length (now numbers) ≡ numbersRoom) × (length (now elements) ≡ elementsRoom) ⌝ }
+    requires { ⌜ (length (now numbers) ≡ numbersRoom) × (length (now elements) ≡ elementsNeeded) ⌝ }
     ensures { λ r. ⌜ (r ≡ refuseClose (numbersIn (now (numbers .entry))) (elementsIn (now (elements .entry))) x)
         × (r ≡ 0 → CloseFits (numbersIn (now (numbers .entry)))) ⌝ }
 {
@@ -95,8 +96,8 @@ fn opening(
     elements: &mut [u8],
     nodes: &[u8],
 ) -> Going
-    requires { ⌜ (length (now kept) ≡ planRoom) × ((length (now elements) ≡ elementsRoom) × (length (now nodes) ≡ nodesRoom)) ⌝ }
-    requires { ⌜ (depth < mostOpen) × (held ≤ mostHeld) ⌝ }
+    requires { ⌜ (length (now kept) ≡ planRoom) × ((length (now elements) ≡ elementsNeeded) × (length (now nodes) ≡ nodesNeeded)) ⌝ }
+    requires { ⌜ (depth < depthLimit) × (held ≤ heldLimit) ⌝ }
     ensures { λ r. ⌜ record { going = r; elements = elementsIn (now (elements .exit)) }
         ≡ openingIn (keptIn (now (kept .entry))) x depth held (elementsIn (now (elements .entry))) (queueIn (now (nodes .entry))) ⌝ }
     ensures { λ r. ⌜ r .went ≤ held ⌝ }
@@ -143,8 +144,8 @@ fn no_place(go: Going, held: usize) -> bool
 
 // Whether an open would find no place, told on a copy of the open elements, so that a refused open leaves them as they were.
 fn brim(kept: &[u8], x: u32, depth: usize, held: usize, elements: &[u8], nodes: &[u8]) -> bool
-    requires { ⌜ (length (now kept) ≡ planRoom) × ((length (now elements) ≡ elementsRoom) × (length (now nodes) ≡ nodesRoom)) ⌝ }
-    requires { ⌜ (depth < mostOpen) × (held ≤ mostHeld) ⌝ }
+    requires { ⌜ (length (now kept) ≡ planRoom) × ((length (now elements) ≡ elementsNeeded) × (length (now nodes) ≡ nodesNeeded)) ⌝ }
+    requires { ⌜ (depth < depthLimit) × (held ≤ heldLimit) ⌝ }
     ensures { λ r. ⌜ r ≡ overIn (keptIn (now (kept .entry))) x depth held (elementsIn (now (elements .entry))) (queueIn (now (nodes .entry))) ⌝ }
 {
     let pass = elements::named(kept, x);
@@ -158,8 +159,8 @@ fn brim(kept: &[u8], x: u32, depth: usize, held: usize, elements: &[u8], nodes: 
 
 // The same: below the brim no open is refused for want of a place.
 fn full(kept: &[u8], x: u32, depth: usize, held: usize, elements: &[u8], nodes: &[u8]) -> bool
-    requires { ⌜ (length (now kept) ≡ planRoom) × ((length (now elements) ≡ elementsRoom) × (length (now nodes) ≡ nodesRoom)) ⌝ }
-    requires { ⌜ (depth < mostOpen) × (held ≤ mostHeld) ⌝ }
+    requires { ⌜ (length (now kept) ≡ planRoom) × ((length (now elements) ≡ elementsNeeded) × (length (now nodes) ≡ nodesNeeded)) ⌝ }
+    requires { ⌜ (depth < depthLimit) × (held ≤ heldLimit) ⌝ }
     ensures { λ r. ⌜ r ≡ overIn (keptIn (now (kept .entry))) x depth held (elementsIn (now (elements .entry))) (queueIn (now (nodes .entry))) ⌝ }
 {
     if held < limits::HELD {
@@ -207,8 +208,8 @@ fn count_close(numbers: &mut [u8], held: u32, given: u32)
 
 // The nodes that wait at the innermost of `depth` elements move up out of it or leave. Returns how many nodes wait.
 fn move_out(kept: &[u8], depth: usize, held: usize, elements: &[u8], nodes: &mut [u8]) -> usize
-    requires { ⌜ (length (now kept) ≡ planRoom) × ((length (now elements) ≡ elementsRoom) × (length (now nodes) ≡ nodesRoom)) ⌝ }
-    requires { ⌜ (0 < depth) × ((depth ≤ mostOpen) × (held ≤ mostHeld)) ⌝ }
+    requires { ⌜ (length (now kept) ≡ planRoom) × ((length (now elements) ≡ elementsNeeded) × (length (now nodes) ≡ nodesNeeded)) ⌝ }
+    requires { ⌜ (0 < depth) × ((depth ≤ depthLimit) × (held ≤ heldLimit)) ⌝ }
     ensures { λ r. ⌜ record { held = r; queue = queueIn (now (nodes .exit)) }
         ≡ movedOut (keptIn (now (kept .entry))) depth held (elementsIn (now (elements .entry))) (queueIn (now (nodes .entry))) ⌝ }
     ensures { λ r. ⌜ r ≤ held ⌝ }
@@ -230,7 +231,7 @@ fn open(
     out: &mut [u8],
 ) -> Stepped
     requires { ⌜ (length (now kept) ≡ planRoom) × (length (now numbers) ≡ numbersRoom) ⌝ }
-    requires { ⌜ (length (now elements) ≡ elementsRoom) × ((length (now nodes) ≡ nodesRoom) × (outputNeeded ≤ length (now out))) ⌝ }
+    requires { ⌜ (length (now elements) ≡ elementsNeeded) × ((length (now nodes) ≡ nodesNeeded) × (outputNeeded ≤ length (now out))) ⌝ }
     ensures { λ r. ⌜ after (r .refusal) (r .given) (numbersIn (now (numbers .exit))) (elementsIn (now (elements .exit)))
         (queueIn (now (nodes .exit))) (now (out .exit))
         ≡ onOpen (keptIn (now (kept .entry))) x (numbersIn (now (numbers .entry))) (elementsIn (now (elements .entry)))
@@ -267,7 +268,7 @@ fn close(
     out: &mut [u8],
 ) -> Stepped
     requires { ⌜ (length (now kept) ≡ planRoom) × (length (now numbers) ≡ numbersRoom) ⌝ }
-    requires { ⌜ (length (now elements) ≡ elementsRoom) × ((length (now nodes) ≡ nodesRoom) × (outputNeeded ≤ length (now out))) ⌝ }
+    requires { ⌜ (length (now elements) ≡ elementsNeeded) × ((length (now nodes) ≡ nodesNeeded) × (outputNeeded ≤ length (now out))) ⌝ }
     ensures { λ r. ⌜ after (r .refusal) (r .given) (numbersIn (now (numbers .exit))) (elementsIn (now (elements .entry)))
         (queueIn (now (nodes .exit))) (now (out .exit))
         ≡ onClose (keptIn (now (kept .entry))) x (numbersIn (now (numbers .entry))) (elementsIn (now (elements .entry)))
@@ -300,7 +301,7 @@ pub fn step(
     out: &mut [u8],
 ) -> Stepped
     requires { ⌜ (length (now kept) ≡ planRoom) × (length (now numbers) ≡ numbersRoom) ⌝ }
-    requires { ⌜ (length (now elements) ≡ elementsRoom) × ((length (now nodes) ≡ nodesRoom) × (outputNeeded ≤ length (now out))) ⌝ }
+    requires { ⌜ (length (now elements) ≡ elementsNeeded) × ((length (now nodes) ≡ nodesNeeded) × (outputNeeded ≤ length (now out))) ⌝ }
     ensures { λ r. ⌜ after (r .refusal) (r .given) (numbersIn (now (numbers .exit))) (elementsIn (now (elements .exit)))
         (queueIn (now (nodes .exit))) (now (out .exit))
         ≡ step (keptIn (now (kept .entry))) (shown (eventOf (now (bytes .entry)))) (numbersIn (now (numbers .entry))) (elementsIn (now (elements .entry)))

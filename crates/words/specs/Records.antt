@@ -12,6 +12,7 @@
 --
 -- Assumes nothing. NOT here: what writing a number does to records, and that laid undoes recordsIn (Records.Laws).
 pub mod Laws
+pub mod Used
 use Prim.Native.Nat.{ℕ, _+_, _-_, _*_, _/_, _%_}
 use mathlib.Core.List.{List, []}
 use lib.Dec.{eqb, ltb}

@@ -1,22 +1,23 @@
 -- `get` reads the number of its field. Assumes nothing.
 use borrow.Author.Needs.{needs}
 use native.Mathlib.Omega.{arith}
-use Rattle.element.specs.Element.{mostOpen}
-use Rattle.element.specs.Element.Laws.{room-is, get-is}
+use Rattle.meaning.specs.Limits.{depthLimit}
+use Rattle.meaning.specs.Limits.Laws.{elements-is}
+use Rattle.element.specs.Element.Laws.{get-is}
 use Rattle.element.proofs.get.Statement.{statement}
 use Rattle.element.proofs.get.Tie as tie
 
 mul-get : tie.Need-mul-get
-unfolding mostOpen
+unfolding depthLimit
 mul-get c = search needs
 
 add-get : tie.Need-add-get
-unfolding mostOpen
+unfolding depthLimit
 add-get c = search needs
 
 get-requires : tie.Need-get-requires
-unfolding mostOpen
-get-requires c κs = omega (arith, room-is)
+unfolding depthLimit
+get-requires c κs = omega (arith, elements-is)
 
 returns : tie.Need-returns
 returns c = get-is _ _ _ _ (c .before .before .pre .1 .0) (c .before .before .pre .1 .1) (c .get .ensures)

@@ -1,22 +1,23 @@
 -- `put` writes the number of its field, and no other. Assumes nothing.
 use borrow.Author.Needs.{needs}
 use native.Mathlib.Omega.{arith}
-use Rattle.element.specs.Element.{mostOpen}
-use Rattle.element.specs.Element.Laws.{room-is, put-is}
+use Rattle.meaning.specs.Limits.{depthLimit}
+use Rattle.meaning.specs.Limits.Laws.{elements-is}
+use Rattle.element.specs.Element.Laws.{put-is}
 use Rattle.element.proofs.put.Statement.{statement}
 use Rattle.element.proofs.put.Tie as tie
 
 mul-put : tie.Need-mul-put
-unfolding mostOpen
+unfolding depthLimit
 mul-put c = search needs
 
 add-put : tie.Need-add-put
-unfolding mostOpen
+unfolding depthLimit
 add-put c = search needs
 
 put-requires : tie.Need-put-requires
-unfolding mostOpen
-put-requires c κs = omega (arith, room-is)
+unfolding depthLimit
+put-requires c κs = omega (arith, elements-is)
 
 same-length : tie.Need-same-length
 same-length c = search needs

@@ -1,7 +1,7 @@
 -- The laws of records (crate words, Records) for those of the open elements.
 --
 --   whole             the shape is one that the laws of records speak of
---   room-is           how many bytes the records take, as a number
+--   room-is           the records take just the room that is needed (crate meaning, Limits)
 --   get-is, put-is    a number read is a field read, a number written a field written
 --   raise-parts, refresh-part, open-parts      the writes of one call together
 --   frames-length     how many records there are
@@ -10,16 +10,17 @@
 -- Assumes nothing.
 use Prim.Native.Nat.{ℕ, zero, suc, _+_, _*_, _<_}
 use native.Mathlib.Omega.{arith}
-use mathlib.Core.Path.{_≡_, refl, ap, _∙_}
+use mathlib.Core.Path.{_≡_, refl, sym, ap, _∙_}
 use mathlib.Core.List.{List}
 use lib.ListN.{length, getD, set}
 use Rattle.choice.specs.Pick.{pick}
+use Rattle.meaning.specs.Limits.{depthLimit, elementRecord, elementsNeeded}
 use Rattle.engine.specs.Quick.{Frame}
 use Rattle.words.specs.Words.{words, Bytes}
 use Rattle.words.specs.Records.{setAt, room, withField, putAt, recordsIn, laid}
 use Rattle.words.specs.Records.Laws as records
 use Rattle.words.specs.Records.Laws.{Whole}
-use Rattle.element.specs.Element.{mostOpen, frameOf, fieldOf, shape, elementsRoom, Elements, elementsIn, frameAt, raisedIn, refreshedIn, openedIn}
+use Rattle.element.specs.Element.{frameOf, fieldOf, shape, Elements, elementsIn, frameAt, raisedIn, refreshedIn, openedIn}
 
 same-frame :
     (r s : ℕ → ℕ) → r 0 ≡ s 0 → r 1 ≡ s 1 → r 2 ≡ s 2 → r 3 ≡ s 3 → r 4 ≡ s 4 → r 5 ≡ s 5 → frameOf r ≡ frameOf s
@@ -44,26 +45,26 @@ whole =
       read = read;
     }
 
-pub room-is : elementsRoom ≡ 64 * mostOpen
-unfolding elementsRoom room
+room-is : room shape ≡ elementsNeeded
+unfolding elementsNeeded elementRecord room
 room-is = omega arith
 
-pub frames-length : (bs : List ℕ) → length (elementsIn bs .list) ≡ mostOpen
+pub frames-length : (bs : List ℕ) → length (elementsIn bs .list) ≡ depthLimit
 unfolding elementsIn
 frames-length bs = records.list-length shape whole bs
 
 pub get-is :
-    (bs : List ℕ) (i g r : ℕ) → i < mostOpen → g < 6 → r ≡ getD (words bs) (16 * i + g) 0 → r ≡ fieldOf g (frameAt (elementsIn bs) i)
+    (bs : List ℕ) (i g r : ℕ) → i < depthLimit → g < 6 → r ≡ getD (words bs) (16 * i + g) 0 → r ≡ fieldOf g (frameAt (elementsIn bs) i)
 unfolding elementsIn
 get-is bs i g r hi hg e = records.get-is shape whole bs i g r hi hg e
 
 pub put-is :
-    (bs bs′ : List ℕ) (i g v : ℕ) → length bs ≡ elementsRoom → i < mostOpen → g < 6 → words bs′ ≡ set (words bs) (16 * i + g) v →
+    (bs bs′ : List ℕ) (i g v : ℕ) → length bs ≡ elementsNeeded → i < depthLimit → g < 6 → words bs′ ≡ set (words bs) (16 * i + g) v →
     elementsIn bs′ ≡ putAt shape i g v (elementsIn bs)
-unfolding elementsIn elementsRoom
-put-is bs bs′ i g v long hi hg e = records.put-is shape whole bs bs′ i g v long hi hg e
+unfolding elementsIn
+put-is bs bs′ i g v long hi hg e = records.put-is shape whole bs bs′ i g v (long ∙ sym room-is) hi hg e
 
-module _ (bs : List ℕ) (i : ℕ) (h : i < mostOpen) where
+module _ (bs : List ℕ) (i : ℕ) (h : i < depthLimit) where
   abbrev E : Elements
   E = elementsIn bs
 
@@ -91,15 +92,14 @@ module _ (bs : List ℕ) (i : ℕ) (h : i < mostOpen) where
       let s₄ = again _ (withField shape 4 0) E₃ E₄ s₃ e₄ in
       again _ (withField shape 5 possible) E₄ E₅ s₄ e₅ ∙ ap (λ f. setAt i f E) (unfold pick in refl)
 
-pub elements-long : (R : Elements) → length (laid shape R) ≡ elementsRoom
-unfolding elementsRoom
-elements-long = records.laid-length shape whole
+pub elements-long : (R : Elements) → length (laid shape R) ≡ elementsNeeded
+elements-long R = records.laid-length shape whole R ∙ room-is
 
-pub elements-laid : (bs : List ℕ) → length bs ≡ elementsRoom → Bytes bs → laid shape (elementsIn bs) ≡ bs
-unfolding elementsIn elementsRoom
-elements-laid = records.records-laid shape whole
+pub elements-laid : (bs : List ℕ) → length bs ≡ elementsNeeded → Bytes bs → laid shape (elementsIn bs) ≡ bs
+unfolding elementsIn
+elements-laid bs e h = records.records-laid shape whole bs (e ∙ sym room-is) h
 
 pub elements-same :
-    (bs cs : List ℕ) → length bs ≡ elementsRoom → length cs ≡ elementsRoom → Bytes bs → Bytes cs → elementsIn bs ≡ elementsIn cs → bs ≡ cs
-unfolding elementsIn elementsRoom
-elements-same = records.records-same shape whole
+    (bs cs : List ℕ) → length bs ≡ elementsNeeded → length cs ≡ elementsNeeded → Bytes bs → Bytes cs → elementsIn bs ≡ elementsIn cs → bs ≡ cs
+unfolding elementsIn
+elements-same bs cs e f = records.records-same shape whole bs cs (e ∙ sym room-is) (f ∙ sym room-is)

@@ -1,7 +1,7 @@
 -- What each call answered, put together (Elements.Laws, push-parts). Assumes nothing.
 use borrow.Author.Needs.{needs}
 use native.Mathlib.Omega.{arith}
-use Rattle.element.specs.Element.{mostOpen}
+use Rattle.meaning.specs.Limits.{depthLimit}
 use Rattle.elements.specs.Elements.Laws.{push-parts}
 use Rattle.elements.proofs.push.Statement.{statement}
 use Rattle.elements.proofs.push.Tie as tie
@@ -28,7 +28,7 @@ open-requires : tie.Need-open-requires
 open-requires c κs = search needs
 
 add-refresh : tie.Need-add-refresh
-unfolding mostOpen
+unfolding depthLimit
 add-refresh c = search needs
 
 refresh-requires : tie.Need-refresh-requires

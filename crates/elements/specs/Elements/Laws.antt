@@ -14,11 +14,12 @@ use mathlib.Core.List.{List, [], _∷_, _++_, map, append-assoc, append-nil, map
 use lib.ListN.{length, getD, set, take, drop, length-append, length-map, take-append-drop, List·getD-map, List·getD-append}
 use lib.Seq.{take-suc, drop-cons, take-set-le, drop-set-lt, set-split, set-at, take-at, drop-at, length-take-le, drop-drop, getD-drop}
 use Rattle.choice.specs.Count.{left, gone, down}
+use Rattle.meaning.specs.Limits.{depthLimit}
 use Rattle.sets.specs.Set.{join, meet, without}
 use Rattle.plan.specs.Plan.{Plan, named, meets, lift, turn}
 use Rattle.engine.specs.Quick.{Frame, Rise, raised, rise, refreshed, refresh, fresh, framesAfter, sureAt, possAt}
 use Rattle.engine.specs.Quick.Snoc.{rise-snoc-stop, rise-snoc-on, rise-length}
-use Rattle.element.specs.Element.{mostOpen, Elements, elementsIn, noFrame, frameAt, raisedIn, refreshedIn, openedIn}
+use Rattle.element.specs.Element.{Elements, elementsIn, noFrame, frameAt, raisedIn, refreshedIn, openedIn}
 use Rattle.element.specs.Element.Laws.{frames-length}
 use Rattle.elements.specs.Elements.{with, Risen, risenBy, risenIn, refreshedFrom, pushedBy, pushedIn}
 
@@ -64,7 +65,7 @@ module _ (P : Plan) (news at : ℕ) (E : Elements) (some : 0 < at) (fits : at �
       risenBy′ r gs = record { top = length (r .kept); elements = with ((r .kept ++ r .risen) ++ gs) E }
 
 -- by what is read of the element: old is met in its content, and its name passes `pass`
-module _ (P : Plan) (news at : ℕ) (bs : List ℕ) (old : ℕ) (some : 0 < at) (fits : at ≤ mostOpen) (eo : old ≡ frameAt (elementsIn bs) (at - 1) .below) where
+module _ (P : Plan) (news at : ℕ) (bs : List ℕ) (old : ℕ) (some : 0 < at) (fits : at ≤ depthLimit) (eo : old ≡ frameAt (elementsIn bs) (at - 1) .below) where
   in-list : at ≤ length (elementsIn bs .list)
   in-list = omega (arith, frames-length bs)
 
@@ -232,7 +233,7 @@ module _ (P : Plan) (x depth : ℕ) (E : Elements) (fits : depth < length (E .li
       (e₃ ∙ ap₂ (λ a b. refreshedFrom P a b (depth + 1) E₂) u t ∙ ap (refreshedFrom P s (length (risen .kept)) (depth + 1)) two ∙ refreshed-list s new)
 
 pub push-parts :
-    (P : Plan) (x depth : ℕ) (bs : List ℕ) → depth < mostOpen → (p plain around possible news top sure : ℕ) (E₁ E₂ E₃ : Elements) →
+    (P : Plan) (x depth : ℕ) (bs : List ℕ) → depth < depthLimit → (p plain around possible news top sure : ℕ) (E₁ E₂ E₃ : Elements) →
     p ≡ named P x → plain ≡ P .plain → around ≡ possAt P (elementsIn bs .list) depth → possible ≡ turn P p around → news ≡ without (meet p plain) (P .main) →
     _≡_ {A = Risen} (record { top = top; elements = E₁ }) (risenIn P news depth (elementsIn bs)) → sure ≡ sureAt P (E₁ .list) top →
     E₂ ≡ openedIn depth x p (meet p plain) possible E₁ → E₃ ≡ refreshedFrom P sure top (depth + 1) E₂ →

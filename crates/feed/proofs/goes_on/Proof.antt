@@ -4,8 +4,8 @@ use mathlib.Core.Bool.{false}
 use lib.Dec.{leb}
 use borrow.Author.Tests.{eq-eqb, ne-eqb}
 use Rattle.choice.specs.Pick.{pick-yes, pick-no}
+use Rattle.meaning.specs.Limits.Laws.{output-is}
 use Rattle.feed.specs.Fed.{goesOn}
-use Rattle.feed.specs.Fed.Laws.{needed-is}
 use Rattle.feed.proofs.goes_on.Statement.{statement}
 use Rattle.feed.proofs.goes_on.Tie as tie
 
@@ -19,7 +19,7 @@ returns-2 c = pick-no _ _ _ _ (ne-eqb _ _ (c .before .if1 .left)) (pick-no _ _ _
 
 returns-3 : tie.Need-returns-3
 unfolding goesOn
-returns-3 c = let room = ap (λ n. leb n (c .before .before .args .room)) (sym needed-is) in
+returns-3 c = let room = ap (λ n. leb n (c .before .before .args .room)) (sym output-is) in
     pick-no _ _ _ _ (ne-eqb _ _ (c .before .if1 .left)) (pick-yes _ _ _ false (eq-eqb _ _ (c .if2 .left)) room)
 
 pub goes-on-spec : {M : Type 1} → statement M

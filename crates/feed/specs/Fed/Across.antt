@@ -12,7 +12,7 @@ use lib.Dec.{eqb, ltb}
 use lib.ListN.{length, take, drop}
 use borrow.Author.Tests.{ltb-false}
 use Rattle.choice.specs.Pick.{pick, pick-ap, pick-known, pick-yes, pick-no}
-use Rattle.step.specs.Step.{outputNeeded}
+use Rattle.meaning.specs.Limits.{outputNeeded}
 use Rattle.feed.specs.Fed.{Came, Fed, one, andThen, fed}
 
 module _ {S T : Type 0} (f : T → S) where

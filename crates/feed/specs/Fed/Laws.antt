@@ -1,6 +1,5 @@
 -- How a block of events goes on, over any kind of seat and any way to take one event.
 --
---   needed-is                what an event can need, as a number
 --   goes-true                by what the code tests
 --   counted-less             a refused event is not counted, and ends the loop
 --   none-underway            before the first event
@@ -22,12 +21,9 @@ use lib.Seq.{drop-drop, take-append-add, drop-append-add, length-take-le, take-a
 use borrow.Author.Tests.{eqb-true, eqb-false, eq-eqb, ne-eqb, leb-true, leb-false, lt-ltb, le-ltb}
 use Rattle.choice.specs.Pick.{pick, pick-true, pick-false, pick-known, never}
 use Rattle.choice.specs.Count.{positive, boolByte-le}
-use Rattle.step.specs.Step.{outputNeeded}
-use Rattle.step.specs.Step.Laws.{output-is, held-is}
+use Rattle.meaning.specs.Limits.{outputNeeded}
+use Rattle.meaning.specs.Limits.Laws.{held-is, output-is}
 use Rattle.feed.specs.Fed.{Came, Fed, none, one, andThen, fed, resumed, Underway, goesOn, Goes, restOf, recordAt, givenBack}
-
-pub needed-is : outputNeeded ≡ 4100
-needed-is = omega (arith, output-is, held-is)
 
 -- whether another event is looked at
 

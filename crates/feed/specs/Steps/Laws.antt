@@ -15,14 +15,15 @@ use lib.ListN.{length}
 use borrow.Author.Tests.{eqb-true, eqb-false}
 use Rattle.choice.specs.Pick.{pick-yes, pick-no, pick-either}
 use Rattle.meaning.specs.Record.{eventOf}
+use Rattle.meaning.specs.Limits.{elementsNeeded, nodesNeeded}
 use Rattle.records.specs.Read.{shown}
 use Rattle.plan.specs.Plan.{Plan}
 use Rattle.words.specs.Words.{Bytes}
 use Rattle.element.specs.Element as element
-use Rattle.element.specs.Element.{elementsRoom, elementsIn}
+use Rattle.element.specs.Element.{elementsIn}
 use Rattle.element.specs.Element.Laws.{elements-long, elements-laid, elements-same}
 use Rattle.node.specs.Node as node
-use Rattle.node.specs.Node.{nodesRoom, queueIn}
+use Rattle.node.specs.Node.{queueIn}
 use Rattle.node.specs.Node.Laws.{nodes-long, nodes-laid, nodes-same}
 use Rattle.numbers.specs.Numbers.{Numbers}
 use Rattle.step.specs.Step.{After, after, step}
@@ -32,8 +33,8 @@ use Rattle.feed.specs.Fed.{Came, Fed}
 use Rattle.feed.specs.Steps.{Seat, seat, came, cameTo, stepAt, Whole, FeedGives}
 
 -- E′ and N′ are what the rooms hold on return
-module _ (P : Plan) (n : Numbers) (E N bytes out : List ℕ) (longE : length E ≡ elementsRoom) (longN : length N ≡ nodesRoom) (bE : Bytes E) (bN : Bytes N)
-    (refusal given : ℕ) (n′ : Numbers) (E′ N′ out′ : List ℕ) (longE′ : length E′ ≡ elementsRoom) (longN′ : length N′ ≡ nodesRoom) (bE′ : Bytes E′)
+module _ (P : Plan) (n : Numbers) (E N bytes out : List ℕ) (longE : length E ≡ elementsNeeded) (longN : length N ≡ nodesNeeded) (bE : Bytes E) (bN : Bytes N)
+    (refusal given : ℕ) (n′ : Numbers) (E′ N′ out′ : List ℕ) (longE′ : length E′ ≡ elementsNeeded) (longN′ : length N′ ≡ nodesNeeded) (bE′ : Bytes E′)
     (bN′ : Bytes N′)
     (stepped : after refusal given n′ (elementsIn E′) (queueIn N′) out′ ≡ step P (shown (eventOf bytes)) n (elementsIn E) (queueIn N) out) where
   same :

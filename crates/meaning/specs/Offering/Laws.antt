@@ -7,7 +7,7 @@
 --   one-record, refused-record     one record that is accepted, or refused
 --   length-offered          each record that is accepted is one event more
 --   length-stream           every element that is no longer open has been opened and closed
---   most-events             no calls lead to more than 33,554,430 accepted events: each opened node is closed once
+--   most-events             no calls lead to more accepted events than twice the nodes that may be opened: each is closed once
 --
 -- Assumes nothing.
 use Prim.Native.Nat.{ℕ, zero, suc, _+_, _*_, _≤_, _<_}
@@ -21,7 +21,7 @@ use lib.Dec.{T, eqb}
 use lib.ListN.{length, take, drop, length-append, length-drop}
 use lib.Seq.{drop-drop, take-append-le, drop-append-le, take-all}
 use borrow.Author.Tests.{ne-eqb}
-use Rattle.meaning.specs.Limits.{depthLimit, heldLimit, outputNeeded, elementRecord, waitingRecord, elementsNeeded, nodesNeeded}
+use Rattle.meaning.specs.Limits.{depthLimit, heldLimit, nodeLimit, outputNeeded, elementRecord, waitingRecord, elementsNeeded, nodesNeeded}
 use Rattle.meaning.specs.Logic.{and-l, and-r}
 use Rattle.meaning.specs.Query.{Query}
 use Rattle.meaning.specs.Document.{Doc, done, within, blank, countRow, count, depth, endsAt}
@@ -158,5 +158,5 @@ pub length-stream : (es : List Event) → Stream es → length es + depth (docum
 unfolding document count countRow depth
 length-stream es t = let h = length-run es blank t in omega (arith, h)
 
-pub most-events : (q : Query) (es : List Event) → Stream es → Bounded q es → length es ≤ 33554430
+pub most-events : (q : Query) (es : List Event) → Stream es → Bounded q es → length es ≤ 2 * nodeLimit
 most-events q es t b = omega (arith, length-stream es t, b .nodes)

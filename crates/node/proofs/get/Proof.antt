@@ -1,22 +1,23 @@
 -- `get` reads the number of its field. Assumes nothing.
 use borrow.Author.Needs.{needs}
 use native.Mathlib.Omega.{arith}
-use Rattle.node.specs.Node.{mostHeld}
-use Rattle.node.specs.Node.Laws.{room-is, get-is}
+use Rattle.meaning.specs.Limits.{heldLimit}
+use Rattle.meaning.specs.Limits.Laws.{nodes-is}
+use Rattle.node.specs.Node.Laws.{get-is}
 use Rattle.node.proofs.get.Statement.{statement}
 use Rattle.node.proofs.get.Tie as tie
 
 mul-get : tie.Need-mul-get
-unfolding mostHeld
+unfolding heldLimit
 mul-get c = search needs
 
 add-get : tie.Need-add-get
-unfolding mostHeld
+unfolding heldLimit
 add-get c = search needs
 
 get-requires : tie.Need-get-requires
-unfolding mostHeld
-get-requires c κs = omega (arith, room-is)
+unfolding heldLimit
+get-requires c κs = omega (arith, nodes-is)
 
 returns : tie.Need-returns
 returns c = get-is _ _ _ _ (c .before .before .pre .1 .0) (c .before .before .pre .1 .1) (c .get .ensures)

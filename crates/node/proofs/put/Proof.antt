@@ -1,22 +1,23 @@
 -- `put` writes the number of its field, and no other. Assumes nothing.
 use borrow.Author.Needs.{needs}
 use native.Mathlib.Omega.{arith}
-use Rattle.node.specs.Node.{mostHeld}
-use Rattle.node.specs.Node.Laws.{room-is, put-is}
+use Rattle.meaning.specs.Limits.{heldLimit}
+use Rattle.meaning.specs.Limits.Laws.{nodes-is}
+use Rattle.node.specs.Node.Laws.{put-is}
 use Rattle.node.proofs.put.Statement.{statement}
 use Rattle.node.proofs.put.Tie as tie
 
 mul-put : tie.Need-mul-put
-unfolding mostHeld
+unfolding heldLimit
 mul-put c = search needs
 
 add-put : tie.Need-add-put
-unfolding mostHeld
+unfolding heldLimit
 add-put c = search needs
 
 put-requires : tie.Need-put-requires
-unfolding mostHeld
-put-requires c κs = omega (arith, room-is)
+unfolding heldLimit
+put-requires c κs = omega (arith, nodes-is)
 
 same-length : tie.Need-same-length
 same-length c = search needs

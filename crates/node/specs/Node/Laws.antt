@@ -1,7 +1,7 @@
 -- The laws of records (crate words, Records) for those of the waiting nodes.
 --
 --   whole             the shape is one that the laws of records speak of
---   room-is           how many bytes the records take, as a number
+--   room-is           the records take just the room that is needed (crate meaning, Limits)
 --   get-is, put-is    a number read is a field read, a number written a field written
 --   write-parts       the writes of one call together
 --   nodes-length      how many records there are
@@ -10,16 +10,17 @@
 -- Assumes nothing.
 use Prim.Native.Nat.{ℕ, zero, suc, _+_, _*_, _<_}
 use native.Mathlib.Omega.{arith}
-use mathlib.Core.Path.{_≡_, refl, ap, _∙_}
+use mathlib.Core.Path.{_≡_, refl, sym, ap, _∙_}
 use mathlib.Core.List.{List}
 use lib.ListN.{length, getD, set}
 use Rattle.choice.specs.Pick.{pick}
+use Rattle.meaning.specs.Limits.{heldLimit, waitingRecord, nodesNeeded}
 use Rattle.engine.specs.Quick.{Waiting}
 use Rattle.words.specs.Words.{words, Bytes}
 use Rattle.words.specs.Records.{setAt, room, withField, putAt, recordsIn, laid}
 use Rattle.words.specs.Records.Laws as records
 use Rattle.words.specs.Records.Laws.{Whole}
-use Rattle.node.specs.Node.{mostHeld, waitingOf, fieldOf, shape, nodesRoom, Queue, queueIn, nodeAt, wroteIn}
+use Rattle.node.specs.Node.{waitingOf, fieldOf, shape, Queue, queueIn, nodeAt, wroteIn}
 
 same-node : (r s : ℕ → ℕ) → r 0 ≡ s 0 → r 1 ≡ s 1 → r 2 ≡ s 2 → waitingOf r ≡ waitingOf s
 same-node r s e₀ e₁ e₂ = cc
@@ -39,26 +40,26 @@ whole =
       read = read;
     }
 
-pub room-is : nodesRoom ≡ 32 * mostHeld
-unfolding nodesRoom room
+room-is : room shape ≡ nodesNeeded
+unfolding nodesNeeded waitingRecord room
 room-is = omega arith
 
-pub nodes-length : (bs : List ℕ) → length (queueIn bs .list) ≡ mostHeld
+pub nodes-length : (bs : List ℕ) → length (queueIn bs .list) ≡ heldLimit
 unfolding queueIn
 nodes-length bs = records.list-length shape whole bs
 
 pub get-is :
-    (bs : List ℕ) (i g r : ℕ) → i < mostHeld → g < 3 → r ≡ getD (words bs) (8 * i + g) 0 → r ≡ fieldOf g (nodeAt (queueIn bs) i)
+    (bs : List ℕ) (i g r : ℕ) → i < heldLimit → g < 3 → r ≡ getD (words bs) (8 * i + g) 0 → r ≡ fieldOf g (nodeAt (queueIn bs) i)
 unfolding queueIn
 get-is bs i g r hi hg e = records.get-is shape whole bs i g r hi hg e
 
 pub put-is :
-    (bs bs′ : List ℕ) (i g v : ℕ) → length bs ≡ nodesRoom → i < mostHeld → g < 3 → words bs′ ≡ set (words bs) (8 * i + g) v →
+    (bs bs′ : List ℕ) (i g v : ℕ) → length bs ≡ nodesNeeded → i < heldLimit → g < 3 → words bs′ ≡ set (words bs) (8 * i + g) v →
     queueIn bs′ ≡ putAt shape i g v (queueIn bs)
-unfolding queueIn nodesRoom
-put-is bs bs′ i g v long hi hg e = records.put-is shape whole bs bs′ i g v long hi hg e
+unfolding queueIn
+put-is bs bs′ i g v long hi hg e = records.put-is shape whole bs bs′ i g v (long ∙ sym room-is) hi hg e
 
-module _ (bs : List ℕ) (i : ℕ) (h : i < mostHeld) where
+module _ (bs : List ℕ) (i : ℕ) (h : i < heldLimit) where
   abbrev N : Queue
   N = queueIn bs
 
@@ -73,15 +74,14 @@ module _ (bs : List ℕ) (i : ℕ) (h : i < mostHeld) where
       let s₂ = again _ (withField shape 1 level) N₁ N₂ e₁ e₂ in
       again _ (withField shape 2 need) N₂ N₃ s₂ e₃ ∙ ap (λ w. setAt i w N) (unfold pick in refl)
 
-pub nodes-long : (R : Queue) → length (laid shape R) ≡ nodesRoom
-unfolding nodesRoom
-nodes-long = records.laid-length shape whole
+pub nodes-long : (R : Queue) → length (laid shape R) ≡ nodesNeeded
+nodes-long R = records.laid-length shape whole R ∙ room-is
 
-pub nodes-laid : (bs : List ℕ) → length bs ≡ nodesRoom → Bytes bs → laid shape (queueIn bs) ≡ bs
-unfolding queueIn nodesRoom
-nodes-laid = records.records-laid shape whole
+pub nodes-laid : (bs : List ℕ) → length bs ≡ nodesNeeded → Bytes bs → laid shape (queueIn bs) ≡ bs
+unfolding queueIn
+nodes-laid bs e h = records.records-laid shape whole bs (e ∙ sym room-is) h
 
 pub nodes-same :
-    (bs cs : List ℕ) → length bs ≡ nodesRoom → length cs ≡ nodesRoom → Bytes bs → Bytes cs → queueIn bs ≡ queueIn cs → bs ≡ cs
-unfolding queueIn nodesRoom
-nodes-same = records.records-same shape whole
+    (bs cs : List ℕ) → length bs ≡ nodesNeeded → length cs ≡ nodesNeeded → Bytes bs → Bytes cs → queueIn bs ≡ queueIn cs → bs ≡ cs
+unfolding queueIn
+nodes-same bs cs e f = records.records-same shape whole bs cs (e ∙ sym room-is) (f ∙ sym room-is)

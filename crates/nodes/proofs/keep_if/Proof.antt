@@ -1,7 +1,7 @@
 -- The two cases. Assumes nothing.
 use borrow.Author.Needs.{needs}
 use native.Mathlib.Omega.{arith}
-use Rattle.node.specs.Node.{mostHeld}
+use Rattle.meaning.specs.Limits.{heldLimit}
 use Rattle.nodes.specs.Nodes.Laws.{keep-yes, keep-no}
 use Rattle.nodes.proofs.keep_if.Statement.{statement}
 use Rattle.nodes.proofs.keep_if.Tie as tie
@@ -10,7 +10,7 @@ write-requires : tie.Need-write-requires
 write-requires c κs = search needs
 
 add-result : tie.Need-add-result
-unfolding mostHeld
+unfolding heldLimit
 add-result c = search needs
 
 same-length : tie.Need-same-length

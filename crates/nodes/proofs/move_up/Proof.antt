@@ -5,7 +5,8 @@ use Prim.Native.Nat.{_-_, _≤_}
 use mathlib.Core.Path.{_≡_, refl, _∙_}
 use lib.ListN.{length}
 use native.Mathlib.Nat.{le-trans}
-use Rattle.node.specs.Node.{mostHeld, queueIn}
+use Rattle.meaning.specs.Limits.{heldLimit}
+use Rattle.node.specs.Node.{queueIn}
 use Rattle.plan_bytes.specs.Kept.{keptIn}
 use Rattle.nodes.specs.Nodes.{movedFrom}
 use Rattle.nodes.specs.Nodes.Laws.{kept-held, move-step, move-done}
@@ -35,7 +36,7 @@ keep-if-requires : tie.Need-keep-if-requires Inv-loop μ-loop
 keep-if-requires c κs = search needs
 
 add-i : tie.Need-add-i Inv-loop μ-loop
-unfolding mostHeld
+unfolding heldLimit
 add-i c = search needs
 
 loop-less : tie.Need-loop-less Inv-loop μ-loop

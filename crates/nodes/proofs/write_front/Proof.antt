@@ -4,8 +4,9 @@ use native.Mathlib.Omega.{arith}
 use Prim.Native.Nat.{_-_, _≤_}
 use mathlib.Core.Path.{_≡_, refl}
 use lib.ListN.{length, take}
+use Rattle.meaning.specs.Limits.{heldLimit}
 use Rattle.records.specs.Write.{buffer}
-use Rattle.node.specs.Node.{mostHeld, queueIn}
+use Rattle.node.specs.Node.{queueIn}
 use Rattle.nodes.specs.Nodes.{numbers}
 use Rattle.nodes.specs.Nodes.Laws.{write-none, write-step, write-done}
 use Rattle.nodes.proofs.write_front.Statement.{statement}

@@ -27,6 +27,7 @@ use lib.Seq.{length-take-le, drop-drop, getD-take, take-take, take-all}
 use borrow.Author.Tests.{eq-eqb, ne-eqb}
 use Rattle.choice.specs.Pick.{pick, pick-true, pick-false, pick-yes, pick-no}
 use Rattle.choice.specs.Count.{left, gone, down}
+use Rattle.meaning.specs.Limits.{depthLimit, heldLimit}
 use Rattle.sets.specs.Set.{overlaps}
 use Rattle.plan.specs.Plan.{Plan, lastGiven, up}
 use Rattle.engine.specs.Engine.{keepIf, keep}
@@ -34,9 +35,9 @@ use Rattle.engine.specs.Quick.{Frame, Waiting, metAt, sureAt, certainIf, certai
 use Rattle.engine.specs.Quick.Snoc.{cut-snoc-on, cut-snoc-stop}
 use Rattle.records.specs.Write.{nodeBytes, buffer}
 use Rattle.records.specs.Write.Laws.{buffer-none, buffer-snoc}
-use Rattle.element.specs.Element.{Elements, elementsIn, noFrame, frameAt, mostOpen}
+use Rattle.element.specs.Element.{Elements, elementsIn, noFrame, frameAt}
 use Rattle.element.specs.Element.Laws.{frames-length}
-use Rattle.node.specs.Node.{mostHeld, Queue, queueIn, noNode, nodeAt, wroteIn}
+use Rattle.node.specs.Node.{Queue, queueIn, noNode, nodeAt, wroteIn}
 use Rattle.node.specs.Node.Laws.{nodes-length}
 use Rattle.elements.specs.Elements.Laws.{sure-front}
 use Rattle.nodes.specs.Nodes.{with, levelOf, numbers, Moved, keptIf, movedBy, movedFrom, shifted, Handed, handedOut, Joined, joinedTo, joined}
@@ -67,7 +68,7 @@ module _ (P : Plan) (fs : List Frame) (level : ℕ) (far : length fs < level) wh
   far-if true need = ap (λ m. lastGiven m (sureAt P fs (pred level))) met-past ∙ none-given _
   far-if false need = ap (overlaps need) sure-past ∙ none-overlap need
 
-module _ (P : Plan) (bs : List ℕ) (depth level need : ℕ) (fits : depth ≤ mostOpen) where
+module _ (P : Plan) (bs : List ℕ) (depth level need : ℕ) (fits : depth ≤ depthLimit) where
   abbrev F : List Frame
   F = elementsIn bs .list
 
@@ -113,7 +114,7 @@ module _ (P : Plan) (bs : List ℕ) (depth level need : ℕ) (fits : depth ≤ m
 
 -- the records of bytes
 
-module _ (bs : List ℕ) (held : ℕ) (fits : held ≤ mostHeld) where
+module _ (bs : List ℕ) (held : ℕ) (fits : held ≤ heldLimit) where
   abbrev L : List Waiting
   L = queueIn bs .list
 
@@ -134,7 +135,7 @@ module _ (bs : List ℕ) (held : ℕ) (fits : held ≤ mostHeld) where
 
 -- the front
 
-module _ (P : Plan) (fs : List Frame) (bs : List ℕ) (held i : ℕ) (fits : held ≤ mostHeld) where
+module _ (P : Plan) (fs : List Frame) (bs : List ℕ) (held i : ℕ) (fits : held ≤ heldLimit) where
   abbrev ws : List Waiting
   ws = take held (queueIn bs .list)
 
@@ -176,7 +177,7 @@ module _ (bs : List ℕ) (from level : ℕ) where
   abbrev before : ℕ → ℕ
   before n = length (cut levelOf level (take n (queueIn bs .list)) .before)
 
-  module _ (read : ℕ) (some : 0 < from) (fits : from ≤ mostHeld) (er : read ≡ nodeAt (queueIn bs) (from - 1) .level) where
+  module _ (read : ℕ) (some : 0 < from) (fits : from ≤ heldLimit) (er : read ≡ nodeAt (queueIn bs) (from - 1) .level) where
     snoc : take from (queueIn bs .list) ≡ take (from - 1) (queueIn bs .list) ++ (nodeAt (queueIn bs) (from - 1) ∷ [])
     snoc = ap (λ n. take n (queueIn bs .list)) (down from some) ∙ take-suc (queueIn bs .list) (from - 1) noNode (omega (arith, nodes-length bs))
 
@@ -219,7 +220,7 @@ unfolding keptIf pick
 kept-held true end x to need N r e = let h : r .held ≡ end + 1 = ap (λ (m : Moved). m .held) e in (omega arith, omega arith)
 kept-held false end x to need N r e = let h : r .held ≡ end = ap (λ (m : Moved). m .held) e in (omega arith, omega arith)
 
-module _ (P : Plan) (m ready to held i end : ℕ) (bs : List ℕ) (fits : held ≤ mostHeld) (ordered : end ≤ i) (h : i < held) where
+module _ (P : Plan) (m ready to held i end : ℕ) (bs : List ℕ) (fits : held ≤ heldLimit) (ordered : end ≤ i) (h : i < held) where
   abbrev N : Queue
   N = queueIn bs
 
@@ -267,7 +268,7 @@ module _ (P : Plan) (m ready to held i end : ℕ) (bs : List ℕ) (fits : held �
       ∙ (unfold movedFrom in ap (movedBy end N) (sym stay-here))
 
 pub move-done :
-    (P : Plan) (m ready to held i end : ℕ) (bs : List ℕ) → held ≤ mostHeld → held ≤ i → end ≤ held →
+    (P : Plan) (m ready to held i end : ℕ) (bs : List ℕ) → held ≤ heldLimit → held ≤ i → end ≤ held →
     _≡_ {A = Moved} (record { held = end; queue = queueIn bs }) (movedFrom P m ready to held i end (queueIn bs))
 unfolding movedFrom stay keep
 move-done P m ready to held i end bs fits h k =
@@ -279,7 +280,7 @@ move-done P m ready to held i end bs fits h k =
 
 -- to the front
 
-module _ (k held i : ℕ) (bs : List ℕ) (fits : held ≤ mostHeld) where
+module _ (k held i : ℕ) (bs : List ℕ) (fits : held ≤ heldLimit) where
   abbrev Q : Queue
   Q = queueIn bs
 
@@ -290,7 +291,7 @@ module _ (k held i : ℕ) (bs : List ℕ) (fits : held ≤ mostHeld) where
   shift-step x level need N′ hk h ex el en e =
       let l : List Waiting = Q .list in
       let w : Waiting = nodeAt Q (i + k) in
-      let n : length l ≡ mostHeld = nodes-length bs in
+      let n : length l ≡ heldLimit = nodes-length bs in
       let a : i + 1 + k ≡ i + k + 1 = omega arith in
       ap (shifted k held (i + 1)) e
       ∙ ap₂ (λ (p q : ℕ). shifted k held (i + 1) (with (set l i (record { node = p; level = q; need = need })) Q)) ex el
@@ -315,7 +316,7 @@ module _ (k held i : ℕ) (bs : List ℕ) (fits : held ≤ mostHeld) where
 
 -- list records
 
-numbers-length : (bs : List ℕ) (i : ℕ) → i ≤ mostHeld → length (numbers (take i (queueIn bs .list))) ≡ i
+numbers-length : (bs : List ℕ) (i : ℕ) → i ≤ heldLimit → length (numbers (take i (queueIn bs .list))) ≡ i
 numbers-length bs i h =
     length-map (take i (queueIn bs .list)) (λ w. w .node) ∙ length-take-le i (queueIn bs .list) (omega (arith, nodes-length bs))
 
@@ -323,7 +324,7 @@ pub write-none : (bs out : List ℕ) → out ≡ buffer (numbers (take 0 (queueI
 write-none bs out = sym (buffer-none out)
 
 pub write-step :
-    (bs out₀ out out′ : List ℕ) (i n : ℕ) → i < mostHeld → 4 * i + 4 ≤ length out₀ → out ≡ buffer (numbers (take i (queueIn bs .list))) out₀ →
+    (bs out₀ out out′ : List ℕ) (i n : ℕ) → i < heldLimit → 4 * i + 4 ≤ length out₀ → out ≡ buffer (numbers (take i (queueIn bs .list))) out₀ →
     n ≡ nodeAt (queueIn bs) i .node → out′ ≡ sets out (4 * i) (nodeBytes n) → out′ ≡ buffer (numbers (take (i + 1) (queueIn bs .list))) out₀
 write-step bs out₀ out out′ i n h room e en eo =
     let l : List Waiting = queueIn bs .list in
@@ -343,7 +344,7 @@ pub write-done :
 write-done bs out₀ out i k h l e = let s : i ≡ k = omega arith in e ∙ ap (λ j. buffer (numbers (take j (queueIn bs .list))) out₀) s
 
 module _ (k held : ℕ) (bs out : List ℕ) where
-  pub hand-none : held ≤ mostHeld → k ≡ 0 → _≡_ {A = Handed} (record { queue = queueIn bs; out = out }) (handedOut k held (queueIn bs) out)
+  pub hand-none : held ≤ heldLimit → k ≡ 0 → _≡_ {A = Handed} (record { queue = queueIn bs; out = out }) (handedOut k held (queueIn bs) out)
   unfolding handedOut shifted
   hand-none fits z =
       let e : held - 0 ≡ held = omega arith in
@@ -364,7 +365,7 @@ module _ (k held : ℕ) (bs out : List ℕ) where
 
 module _ (go : Going) (held number level : ℕ) (bs out : List ℕ) where
   pub join-all :
-      (out₁ out₂ : List ℕ) → go .all ≡ true → go .went ≤ mostHeld → 4 * go .went + 4 ≤ length out →
+      (out₁ out₂ : List ℕ) → go .all ≡ true → go .went ≤ heldLimit → 4 * go .went + 4 ≤ length out →
       out₁ ≡ buffer (numbers (take (go .went) (queueIn bs .list))) out → out₂ ≡ sets out₁ (4 * go .went) (nodeBytes number) →
       _≡_ {A = Joined} (record { held = 0; queue = queueIn bs; out = out₂ }) (joined go held number level (queueIn bs) out)
   unfolding joined

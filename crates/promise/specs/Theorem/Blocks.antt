@@ -1,7 +1,7 @@
 -- The proof of the block's promise: what `run` gives is what single offers of its whole records come to.
 --
---   Singly s n es out f     f is what single offers of the first n records of es come to, from the session s and with the buffer out
---   fed-singly              what blocks promises is that, on a session that calls reach
+--   Singly l n es E N out f     f is what single offers of the first n records of es come to, on the session of l lent E and N, and with the buffer out
+--   fed-singly              what session promises of a block is that, on a session that calls reach
 --   played-append           one play after another;  first-part: a first part of a play
 --   block                   THE BLOCK is as promised
 --
@@ -10,52 +10,66 @@ use Prim.Native.Nat.{ℕ, zero, suc, _+_, _-_, _*_, _/_, _≤_, _<_}
 use native.Mathlib.Omega.{arith}
 use mathlib.Core.Logic.{_⊎_, inl, inr}
 use mathlib.Core.Path.{_≡_, refl, sym, ap, ap₂, _∙_, subst}
+use mathlib.Core.Bool.{Bool, true, false}
 use mathlib.Core.List.{List, [], _∷_, _++_, map, append-assoc}
-use lib.Dec.{ltb}
+use mir.Val.{boolByte}
+use lib.Dec.{eqb, ltb}
 use lib.ListN.{length, take, drop, length-append, length-drop}
 use lib.Seq.{drop-drop}
-use borrow.Author.Tests.{ltb-true, ltb-false}
-use Rattle.choice.specs.Pick.{pick-known}
+use borrow.Author.Tests.{eqb-false, ne-eqb, ltb-true, ltb-false, le-ltb}
+use Rattle.choice.specs.Pick.{pick, pick-true, pick-false, pick-known, pick-either}
+use Rattle.choice.specs.Count.{positive}
+use Rattle.meaning.specs.Limits.{outputNeeded, elementsNeeded, nodesNeeded}
+use Rattle.meaning.specs.Refusals.{shortRoom}
 use Rattle.meaning.specs.Stream.{Event}
 use Rattle.meaning.specs.Answer as meaning
-use Rattle.meaning.specs.Answer.{Call, answer, handedBy, handedOut}
+use Rattle.meaning.specs.Answer.{Call, tooSmall, answer, handedBy, handedOut}
 use Rattle.query.specs.Decode.{decode}
 use Rattle.records.specs.Write.{recordsOf, nodesIn}
 use Rattle.records.specs.Write.Laws.{length-records, records-append, length-nodes}
+use Rattle.plan_bytes.specs.Kept.{keptIn}
+use Rattle.feed.specs.Fed.{Came, Fed, none, one, andThen, fed}
+use Rattle.feed.specs.Steps.{Seat, seat, stepAt}
 use Rattle.session.specs.declared.Session.{Session}
 use Rattle.session.specs.declared.Step.{Step}
 use Rattle.session.specs.declared.Answer.{Answer}
 use Rattle.session.specs.declared.Answer.the-variants.{Refused, Taken}
-use Rattle.session.specs.Event.{Done, event, EventGives}
-use Rattle.session.specs.Event.Laws.{event-is}
+use Rattle.session.specs.declared.Ran.{Ran}
+use Rattle.session.specs.Event.{Done, numbersOf, settled, within, beside, toldOf, event, EventGives}
+use Rattle.session.specs.Run.{Lent, lent, refusalOf, givenOf, cameTo, eventAt, ran, RunGives}
 use Rattle.session.specs.Told.{told}
-use Rattle.blocks.specs.declared.Ran.{Ran}
-use Rattle.blocks.specs.Fed.{Fed, none, one, oneOf, andThen, follow, fed, RunGives, Single}
-use Rattle.blocks.specs.Step.Laws.{event-single}
-use Rattle.promise.specs.Promise.{Of, event-given, event-of}
+use Rattle.promise.specs.Promise.{SameUsed, Of, leftBy, event-of, event-answered, event-written}
 use Rattle.promise.specs.Theorem as theorem
 use Rattle.promise.specs.Theorem.{Use, offer, Reply, stepped, Played, unused, by-event, by-finish, Reached, answerOf, recordsBy, nodesOf}
 use Rattle.promise.specs.Theorem.{Offered, no-more, one-more, Answered, all-taken, then-refused, one-taken}
-use Rattle.promise.specs.Theorem.Replies.{told-records, reached-kept, event-refused, event-taken}
+use Rattle.promise.specs.Theorem.Replies.{told-records, reached-kept, event-taken, event-long, same}
 
-record Singly (s : Session) (n : ℕ) (es out : List ℕ) (f : Fed) : Type 0 where
+record Singly (l : Lent) (n : ℕ) (es E N out : List ℕ) (f : Fed Lent) : Type 0 where
   offers : List Use
   replies : List Reply
-  played : Played s offers replies (f .session)
-  offered : Offered es out offers replies
+  left : Lent
+  same-session : left .session ≡ f .seat .session
+  played : Played l offers replies left
+  goes-on : tooSmall (length E) (length N) ≡ false → SameUsed left (f .seat .elements) (f .seat .nodes)
+  offered : Offered es E N out offers replies (f .seat .elements) (f .seat .nodes)
   answered : Answered (f .taken) (f .refusal) (map answerOf replies)
   listed : f .listed ≡ length (nodesOf replies)
   written : f .out ≡ recordsOf (nodesOf replies) ++ drop (4 * f .listed) out
-  stops : f .refusal ≡ 0 → (f .taken ≡ n) ⊎ (length out < 4 * f .listed + 516)
+  stops : f .refusal ≡ 0 → (f .taken ≡ n) ⊎ (length out < 4 * f .listed + outputNeeded)
 
 -- no event is looked at
-none-singly : (s : Session) (n : ℕ) (es out : List ℕ) → (0 ≡ n) ⊎ (length out < 516) → Singly s n es out (none s out)
+none-singly :
+    (l : Lent) (n : ℕ) (es E N out : List ℕ) → (tooSmall (length E) (length N) ≡ false → SameUsed l E N) →
+    (0 ≡ n) ⊎ (length out < 0 + outputNeeded) → Singly l n es E N out (none (lent (l .session) E N) out)
 unfolding handedOut recordsOf
-none-singly s n es out why =
+none-singly l n es E N out used why =
     record {
       offers = [];
       replies = [];
+      left = l;
+      same-session = refl;
       played = unused;
+      goes-on = used;
       offered = no-more;
       answered = all-taken;
       listed = refl;
@@ -63,154 +77,225 @@ none-singly s n es out why =
       stops = λ z. why;
     }
 
-module _ {b : List ℕ} {fs : List Event} {s : Session} (o : Of b fs s) (n : ℕ) (es out : List ℕ) (whole : 8 ≤ length es) (wide : 516 ≤ length out) where
-  module _ (t : Session) (out′ : List ℕ) where
-    refused-singly :
-        (x : ℕ) → EventGives s (take 8 es) out (record { answer = Refused x; session = t }) out′ → 1 ≤ x →
-        Singly s (suc n) es out (one (Refused x) t out′)
-    unfolding one answerOf told handedOut handedBy recordsOf
-    refused-singly x g some =
-        let same = event-refused o (take 8 es) out out′ (record { answer = Refused x; session = t }) g x refl in
+-- room that was just given back has the records in use
+used-back : (s : Session) (A B : List ℕ) → SameUsed (lent s A B) A B
+used-back s A B = record { elements = refl; nodes = refl }
+
+-- room that was enough is what is left
+left-is : (l : Lent) (E N : List ℕ) (t : Session) (A B : List ℕ) → tooSmall (length E) (length N) ≡ false → leftBy l E N t A B ≡ lent t A B
+unfolding leftBy
+left-is l E N t A B enough = pick-false (tooSmall (length E) (length N)) _ (lent t A B) enough
+
+-- a refusal has a number
+Numbered : Done → Type 0
+Numbered d = (x : ℕ) → d .answer ≡ Refused x → 0 < x
+
+refused-some : (s : Session) (bytes E N out : List ℕ) (x : ℕ) → event s bytes E N out .answer ≡ Refused x → 0 < x
+unfolding event within settled Numbered
+refused-some s bytes E N out =
+    pick-either Numbered _ _ _ (λ x e. let z : x ≡ 1 = cc in omega arith)
+    (pick-either Numbered _ _ _ (λ x e. let z : x ≡ 15 = cc in omega arith)
+    (pick-known (λ (d : Done). Numbered (beside E N d)) (eqb (came .refusal) 0) _ _ (λ t x e. let z : _≡_ {A = ℕ} 0 1 = cc in absurd (omega arith))
+    (λ f x e. let z : x ≡ came .refusal = cc in subst (λ k. 0 < k) (sym z) (positive (came .refusal) (eqb-false (came .refusal) 0 f)))))
+  where
+    came : Came Seat
+    came = stepAt (keptIn (s .kept)) (seat (numbersOf s) (take elementsNeeded E) (take nodesNeeded N)) bytes out
+
+-- an event that is taken was lent enough
+taken-enough :
+    (s : Session) (bytes E N out : List ℕ) (k : ℕ) → outputNeeded ≤ length out → event s bytes E N out .answer ≡ Taken k →
+    tooSmall (length E) (length N) ≡ false
+unfolding event
+taken-enough s bytes E N out k wide e = by (tooSmall (length E) (length N)) refl
+  where
+    by : (x : Bool) → tooSmall (length E) (length N) ≡ x → x ≡ false
+    by false t = refl
+    by true t =
+        let short : event s bytes E N out .answer ≡ Refused shortRoom =
+        ap (λ (d : Done). d .answer)
+        (pick-false (ltb (length out) outputNeeded) _ _ (le-ltb (length out) outputNeeded wide) ∙ pick-true (tooSmall (length E) (length N)) _ _ t) in
+        let z : _≡_ {A = ℕ} 0 1 = cc in absurd (omega arith)
+
+module _ {b : List ℕ} {fs : List Event} {l : Lent} (o : Of b fs l) (n : ℕ) (es E N out : List ℕ)
+    (used : tooSmall (length E) (length N) ≡ false → SameUsed l E N) (whole : 8 ≤ length es) (wide : outputNeeded ≤ length out)
+    (t : Session) (A B out′ : List ℕ) where
+  abbrev came : Answer → Came Lent
+  came a = record { refusal = refusalOf a; given = givenOf a; seat = lent t A B; out = out′ }
+
+  refused-singly :
+      (x : ℕ) → 0 < x → EventGives (l .session) (take 8 es) E N out (record { answer = Refused x; session = t }) A B out′ →
+      Singly l (suc n) es E N out (one (came (Refused x)))
+  unfolding answerOf told handedOut handedBy recordsOf refusalOf givenOf leftBy
+  refused-singly x some g =
+      let r : Step = record { answer = Refused x; session = t } in
+      let back = same (l .session) (take 8 es) E N out r A B out′ g .refused-same x refl in
+      record {
+        offers = offer (take 8 es) E N out ∷ [];
+        replies = stepped r A B out′ ∷ [];
+        left = leftBy l E N t A B;
+        same-session = pick-either (λ (k : Lent). k .session ≡ t) (tooSmall (length E) (length N)) _ _ refl refl;
+        played = by-event {r = r} used g unused;
+        goes-on =
+            λ f. subst (λ (k : Lent). SameUsed k A B) (sym (left-is l E N t A B f)) (used-back t A B);
+        offered = one-more {r = r} whole wide no-more;
+        answered = subst (λ k. Answered k x (meaning.refused x ∷ [])) (sym (none-taken x some)) (then-refused some);
+        listed = refl;
+        written = back .1 .1 .1;
+        stops = λ z. absurd (omega arith);
+      }
+    where
+      none-taken : (x : ℕ) → 0 < x → boolByte (eqb x 0) ≡ 0
+      none-taken x h = ap boolByte (ne-eqb x 0 (λ z. omega arith))
+
+  module _ (k : ℕ) (g : EventGives (l .session) (take 8 es) E N out (record { answer = Taken k; session = t }) A B out′)
+      (enough : tooSmall (length E) (length N) ≡ false) (f : Fed Lent) (rest : Singly (lent t A B) n (drop 8 es) A B (drop (4 * k) out′) f) where
+    abbrev r : Step
+    r = record { answer = Taken k; session = t }
+
+    abbrev ns : List ℕ
+    ns = nodesIn k out′
+
+    abbrev c : Call
+    c = Call.event (take 8 es) (record { out = length out; elements = length E; nodes = length N })
+
+    -- what is written behind what is written
+    behind : drop (4 * f .listed) (drop (4 * k) out′) ≡ drop (4 * (k + f .listed)) out
+    behind =
+        let m : 4 * k + 4 * f .listed ≡ 4 * (k + f .listed) = omega arith in
+        ap (drop (4 * f .listed)) (event-taken o (take 8 es) E N out A B out′ r k used g refl)
+        ∙ drop-drop (4 * f .listed) (4 * k) out
+        ∙ ap (λ (i : ℕ). drop i out) m
+
+    first : take (4 * k) out′ ≡ recordsOf ns
+    unfolding told recordsBy handedBy
+    first =
+        let e : meaning.taken ns ≡ answer (decode b) fs c = event-answered o (take 8 es) E N out used r A B out′ g in
+        told-records (Taken k) (answer (decode b) fs c) out out′ e (event-written o (take 8 es) E N out used r A B out′ g)
+        ∙ ap (λ (a : meaning.Answer). recordsOf (handedBy a)) (sym e)
+
+    first-long : length (recordsBy (Taken k) out′) ≡ 4 * k
+    unfolding recordsBy
+    first-long = ap length first ∙ length-records ns ∙ ap (λ (m : ℕ). 4 * m) (length-nodes k out′)
+
+    still-enough : tooSmall (length A) (length B) ≡ false
+    still-enough =
+        let long = event-long (l .session) (take 8 es) E N out r A B out′ g in
+        ap₂ tooSmall (long .0) (long .1) ∙ enough
+
+    taken-singly : Singly l (suc n) es E N out (andThen (one (came (Taken k))) f)
+    unfolding andThen answerOf told handedOut handedBy refusalOf givenOf
+    taken-singly =
+        let left : length (drop (4 * k) out′) ≡ length out - 4 * k =
+        ap length (event-taken o (take 8 es) E N out A B out′ r k used g refl) ∙ length-drop (4 * k) out in
         record {
-          offers = offer (take 8 es) out ∷ [];
-          replies = stepped (record { answer = Refused x; session = t }) out′ ∷ [];
-          played = by-event {r = record { answer = Refused x; session = t }} g unused;
-          offered = one-more {r = record { answer = Refused x; session = t }} whole wide no-more;
-          answered = then-refused some;
-          listed = refl;
-          written = same .1;
-          stops = λ z. absurd (omega arith);
+          offers = offer (take 8 es) E N out ∷ rest .offers;
+          replies = stepped r A B out′ ∷ rest .replies;
+          left = rest .left;
+          same-session = rest .same-session;
+          played = by-event {r = r} used g (subst (λ (m : Lent). Played m (rest .offers) (rest .replies) (rest .left)) (sym (left-is l E N t A B enough)) (rest .played));
+          goes-on = λ e. rest .goes-on still-enough;
+          offered =
+              one-more {r = r} whole wide
+              (subst (λ (m : ℕ). Offered (drop 8 es) A B (drop m out′) (rest .offers) (rest .replies) (f .seat .elements) (f .seat .nodes))
+              (sym first-long) (rest .offered));
+          answered = subst (λ (m : ℕ). Answered m (f .refusal) (meaning.taken ns ∷ map answerOf (rest .replies))) (omega arith) (one-taken (rest .answered));
+          listed = omega (arith, rest .listed, length-append ns (nodesOf (rest .replies)), length-nodes k out′);
+          written =
+              ap₂ _++_ first (rest .written)
+              ∙ ap (λ (m : List ℕ). recordsOf ns ++ (recordsOf (nodesOf (rest .replies)) ++ m)) behind
+              ∙ sym (append-assoc (recordsOf ns) (recordsOf (nodesOf (rest .replies))) _)
+              ∙ ap (_++ drop (4 * (k + f .listed)) out) (sym (records-append ns (nodesOf (rest .replies))));
+          stops = λ z. later (rest .stops z) left;
         }
-
-    module _ (k : ℕ) (g : EventGives s (take 8 es) out (record { answer = Taken k; session = t }) out′) (f : Fed)
-        (rest : Singly t n (drop 8 es) (drop (4 * k) out′) f) where
-      abbrev r : Step
-      r = record { answer = Taken k; session = t }
-
-      abbrev ns : List ℕ
-      ns = nodesIn k out′
-
-      -- what is written behind what is written
-      behind : drop (4 * f .listed) (drop (4 * k) out′) ≡ drop (4 * (k + f .listed)) out
-      behind =
-          let m : 4 * k + 4 * f .listed ≡ 4 * (k + f .listed) = omega arith in
-          ap (drop (4 * f .listed)) (event-taken o (take 8 es) out out′ r g k refl) ∙ drop-drop (4 * f .listed) (4 * k) out ∙ ap (λ (i : ℕ). drop i out) m
-
-      first : take (4 * k) out′ ≡ recordsOf ns
-      unfolding told recordsBy handedBy
-      first =
-          let e = event-given o (take 8 es) out r out′ g in
-          told-records (Taken k) (answer (decode b) fs (Call.event (take 8 es) (length out))) out out′ (e .answered) (e .written)
-          ∙ ap (λ (a : meaning.Answer). recordsOf (handedBy a)) (sym (e .answered))
-
-      first-long : length (recordsBy (Taken k) out′) ≡ 4 * k
-      unfolding recordsBy
-      first-long = ap length first ∙ length-records ns ∙ ap (λ (m : ℕ). 4 * m) (length-nodes k out′)
-
-      taken-singly : Singly s (suc n) es out (andThen (one (Taken k) t out′) f)
-      unfolding one andThen answerOf told handedOut handedBy
-      taken-singly =
-          let left : length (drop (4 * k) out′) ≡ length out - 4 * k =
-          ap length (event-taken o (take 8 es) out out′ r g k refl) ∙ length-drop (4 * k) out in
-          record {
-            offers = offer (take 8 es) out ∷ rest .offers;
-            replies = stepped r out′ ∷ rest .replies;
-            played = by-event {r = r} g (rest .played);
-            offered =
-                one-more {r = r} whole wide
-                (subst (λ (m : ℕ). Offered (drop 8 es) (drop m out′) (rest .offers) (rest .replies)) (sym first-long) (rest .offered));
-            answered = subst (λ (m : ℕ). Answered m (f .refusal) (meaning.taken ns ∷ map answerOf (rest .replies))) (omega arith) (one-taken (rest .answered));
-            listed = omega (arith, rest .listed, length-append ns (nodesOf (rest .replies)), length-nodes k out′);
-            written =
-                ap₂ _++_ first (rest .written)
-                ∙ ap (λ (l : List ℕ). recordsOf ns ++ (recordsOf (nodesOf (rest .replies)) ++ l)) behind
-                ∙ sym (append-assoc (recordsOf ns) (recordsOf (nodesOf (rest .replies))) _)
-                ∙ ap (_++ drop (4 * (k + f .listed)) out) (sym (records-append ns (nodesOf (rest .replies))));
-            stops = λ z. later (rest .stops z) left;
-          }
-        where
-          later : (f .taken ≡ n) ⊎ (length (drop (4 * k) out′) < 4 * f .listed + 516) → length (drop (4 * k) out′) ≡ length out - 4 * k →
-              (1 + f .taken ≡ suc n) ⊎ (length out < 4 * (k + f .listed) + 516)
-          later (inl e) l = inl (omega arith)
-          later (inr h) l = inr (omega arith)
-
--- no refusal has the number 0
-refused-some : (x : ℕ) (t : Session) (out′ : List ℕ) → Single (one (Refused x) t out′) → 1 ≤ x
-unfolding one
-refused-some zero t out′ h = let z : _≡_ {A = ℕ} 0 1 = h .counted refl in absurd (omega arith)
-refused-some (suc x) t out′ h = omega arith
+      where
+        later : (f .taken ≡ n) ⊎ (length (drop (4 * k) out′) < 4 * f .listed + outputNeeded) → length (drop (4 * k) out′) ≡ length out - 4 * k →
+            (1 + f .taken ≡ suc n) ⊎ (length out < 4 * (k + f .listed) + outputNeeded)
+        later (inl e) h = inl (omega arith)
+        later (inr e) h = inr (omega arith)
 
 -- one event, and then the rest
-module _ (n : ℕ) {b : List ℕ} (rest : (fs : List Event) (t : Session) → Of b fs t → (es out : List ℕ) → 8 * n ≤ length es → Singly t n es out (fed n t es out))
-    {fs : List Event} {s : Session} (o : Of b fs s) (es out : List ℕ) (whole : 8 * suc n ≤ length es) (wide : 516 ≤ length out) where
+module _ (n : ℕ) {b : List ℕ}
+    (rest : (fs : List Event) (l : Lent) → Of b fs l → (es E N out : List ℕ) → (tooSmall (length E) (length N) ≡ false → SameUsed l E N) →
+    8 * n ≤ length es → Singly l n es E N out (fed eventAt n (lent (l .session) E N) es out))
+    {fs : List Event} {l : Lent} (o : Of b fs l) (es E N out : List ℕ) (used : tooSmall (length E) (length N) ≡ false → SameUsed l E N)
+    (whole : 8 * suc n ≤ length es) (wide : outputNeeded ≤ length out) where
+  abbrev followed : Came Lent → Fed Lent
+  followed c = pick (eqb (c .refusal) 0) (andThen (one c) (fed eventAt n (c .seat) (drop 8 es) (drop (4 * c .given) (c .out)))) (one c)
+
   one-singly :
-      (a : Answer) (t : Session) (out′ : List ℕ) → EventGives s (take 8 es) out (record { answer = a; session = t }) out′ →
-      Singly s (suc n) es out (follow a t out′ (λ (u : Session). fed n u (drop 8 es)))
-  unfolding follow
-  one-singly (Refused x) t out′ g =
-      refused-singly o n es out (omega arith) wide t out′ x g
-      (refused-some x t out′
-      (subst (λ (d : Done). Single (oneOf d)) (sym (event-is s (take 8 es) out (record { answer = Refused x; session = t }) out′ g))
-      (event-single s (take 8 es) out)))
-  one-singly (Taken k) t out′ g =
-      taken-singly o n es out (omega arith) wide t out′ k g (fed n t (drop 8 es) (drop (4 * k) out′))
-      (rest _ t (event-of o (take 8 es) out (record { answer = Taken k; session = t }) out′ g) (drop 8 es) (drop (4 * k) out′)
-      (omega (arith, length-drop 8 es)))
+      (a : Answer) (t : Session) (A B out′ : List ℕ) →
+      _≡_ {A = Done} (record { answer = a; session = t; elements = A; nodes = B; out = out′ }) (event (l .session) (take 8 es) E N out) →
+      Singly l (suc n) es E N out (followed (cameTo (record { answer = a; session = t; elements = A; nodes = B; out = out′ })))
+  unfolding refusalOf givenOf
+  one-singly (Refused x) t A B out′ e =
+      let some : 0 < x = refused-some (l .session) (take 8 es) E N out x (sym (ap (λ (d : Done). d .answer) e)) in
+      subst (Singly l (suc n) es E N out)
+      (sym (pick-false (eqb x 0) _ _ (ne-eqb x 0 (λ z. omega arith))))
+      (refused-singly o n es E N out used (omega arith) wide t A B out′ x some (ap (λ (d : Done). toldOf d) e))
+  one-singly (Taken k) t A B out′ e =
+      let g : EventGives (l .session) (take 8 es) E N out (record { answer = Taken k; session = t }) A B out′ = ap (λ (d : Done). toldOf d) e in
+      let enough : tooSmall (length E) (length N) ≡ false =
+      taken-enough (l .session) (take 8 es) E N out k wide (sym (ap (λ (d : Done). d .answer) e)) in
+      subst (Singly l (suc n) es E N out) (sym (pick-true true _ _ refl))
+      (taken-singly o n es E N out used (omega arith) wide t A B out′ k g enough (fed eventAt n (lent t A B) (drop 8 es) (drop (4 * k) out′))
+      (rest _ (lent t A B)
+      (subst (Of b _) (left-is l E N t A B enough)
+      (event-of o (take 8 es) E N out used (record { answer = Taken k; session = t }) A B out′ g))
+      (drop 8 es) A B (drop (4 * k) out′) (λ x. used-back t A B) (omega (arith, length-drop 8 es))))
 
 fed-singly :
-    (n : ℕ) {b : List ℕ} {fs : List Event} {s : Session} → Of b fs s → (es out : List ℕ) → 8 * n ≤ length es → Singly s n es out (fed n s es out)
-unfolding fed
-fed-singly zero {s = s} o es out h = none-singly s zero es out (inl refl)
-fed-singly (suc n) {b} {fs} {s} o es out h =
-    pick-known (Singly s (suc n) es out) (ltb (length out) 516) _ _
-    (λ t. none-singly s (suc n) es out (inr (ltb-true (length out) 516 t)))
-    (λ t. one-singly n (λ us u p. fed-singly n {fs = us} {s = u} p) o es out h (ltb-false (length out) 516 t) (event s (take 8 es) out .answer) _ _ refl)
+    (n : ℕ) {b : List ℕ} {fs : List Event} {l : Lent} → Of b fs l → (es E N out : List ℕ) → (tooSmall (length E) (length N) ≡ false → SameUsed l E N) →
+    8 * n ≤ length es → Singly l n es E N out (fed eventAt n (lent (l .session) E N) es out)
+unfolding fed eventAt
+fed-singly zero {l = l} o es E N out used h = none-singly l zero es E N out used (inl refl)
+fed-singly (suc n) {b} {fs} {l} o es E N out used h =
+    pick-known (Singly l (suc n) es E N out) (ltb (length out) outputNeeded) _ _
+    (λ t. none-singly l (suc n) es E N out used (inr (omega (arith, ltb-true (length out) outputNeeded t))))
+    (λ t.
+    one-singly n (λ us m p es′ A B out′ u k. fed-singly n {fs = us} {l = m} p es′ A B out′ u k) o es E N out used h
+    (ltb-false (length out) outputNeeded t) (event (l .session) (take 8 es) E N out .answer) _ _ _ _ refl)
 
 pub played-append :
-    {s t u : Session} {us us′ : List Use} {rs rs′ : List Reply} → Played s us rs t → Played t us′ rs′ u → Played s (us ++ us′) (rs ++ rs′) u
+    {l k m : Lent} {us us′ : List Use} {rs rs′ : List Reply} → Played l us rs k → Played k us′ rs′ m → Played l (us ++ us′) (rs ++ rs′) m
 played-append unused q = q
-played-append (by-event g p) q = by-event g (played-append p q)
+played-append (by-event u g p) q = by-event u g (played-append p q)
 played-append (by-finish g p) q = by-finish g (played-append p q)
 
 played-split :
-    (us us′ : List Use) {rs : List Reply} {s u : Session} → Played s (us ++ us′) rs u →
-    (rs₁ : List Reply) × (rs₂ : List Reply) × (t : Session) × Played s us rs₁ t × Played t us′ rs₂ u × (rs ≡ rs₁ ++ rs₂)
-played-split [] us′ {rs} {s} p = ([], rs, s, unused, p, refl)
-played-split (u ∷ us) us′ (by-event {out′ = out′} {r = r} g p) =
-    let x = played-split us us′ p in (stepped r out′ ∷ x .0, x .1, x .2, by-event g (x .3), x .4, ap (λ (l : List Reply). stepped r out′ ∷ l) (x .5))
+    (us us′ : List Use) {rs : List Reply} {l m : Lent} → Played l (us ++ us′) rs m →
+    (rs₁ : List Reply) × (rs₂ : List Reply) × (k : Lent) × Played l us rs₁ k × Played k us′ rs₂ m × (rs ≡ rs₁ ++ rs₂)
+played-split [] us′ {rs} {l} p = ([], rs, l, unused, p, refl)
+played-split (u ∷ us) us′ (by-event {E′ = E′} {N′ = N′} {out′ = out′} {r = r} h g p) =
+    let x = played-split us us′ p in
+    (stepped r E′ N′ out′ ∷ x .0, x .1, x .2, by-event h g (x .3), x .4, ap (λ (m : List Reply). stepped r E′ N′ out′ ∷ m) (x .5))
 played-split (u ∷ us) us′ (by-finish {f = f} g p) =
-    let x = played-split us us′ p in (theorem.finish f ∷ x .0, x .1, x .2, by-finish g (x .3), x .4, ap (λ (l : List Reply). theorem.finish f ∷ l) (x .5))
+    let x = played-split us us′ p in (theorem.finish f ∷ x .0, x .1, x .2, by-finish g (x .3), x .4, ap (λ (m : List Reply). theorem.finish f ∷ m) (x .5))
+
+-- with other uses, replies and what they lead to
+reached-by :
+    {b : List ℕ} {us us′ : List Use} {rs rs′ : List Reply} {l k : Lent} (x : Reached b us rs l) → Played (lent (x .begun .session) (x .E) (x .N)) us′ rs′ k →
+    Reached b us′ rs′ k
+reached-by x p = record { bytes = x .bytes; E = x .E; N = x .N; begun = x .begun; begins = x .begins; admitted = x .admitted; played = p }
 
 pub first-part :
-    {b : List ℕ} (us us′ : List Use) {rs : List Reply} {s : Session} → Reached b (us ++ us′) rs s →
-    (rs₁ : List Reply) × (rs₂ : List Reply) × (t : Session) × Reached b us rs₁ t × Played t us′ rs₂ s × (rs ≡ rs₁ ++ rs₂)
-first-part us us′ x =
-    let p = played-split us us′ (x .played) in (
-      p .0,
-      p .1,
-      p .2,
-      record { bytes = x .bytes; begun = x .begun; begins = x .begins; admitted = x .admitted; played = p .3 },
-      p .4,
-      p .5,
-    )
+    {b : List ℕ} (us us′ : List Use) {rs : List Reply} {l : Lent} → Reached b (us ++ us′) rs l →
+    (rs₁ : List Reply) × (rs₂ : List Reply) × (k : Lent) × Reached b us rs₁ k × Played k us′ rs₂ l × (rs ≡ rs₁ ++ rs₂)
+first-part us us′ x = let p = played-split us us′ (x .played) in (p .0, p .1, p .2, reached-by x (p .3), p .4, p .5)
 
 pub block :
-    {b : List ℕ} {us : List Use} {rs : List Reply} {s : Session} → Reached b us rs s →
-    (es out : List ℕ) (r : Ran) (out′ : List ℕ) → RunGives s es out r out′ → theorem.Block b us rs es out r out′
-block {b} {us} {rs} {s} x es out r out′ g =
-    let p : Singly s (length es / 8) es out (record { session = r .session; taken = r .taken; listed = r .listed; refusal = r .refusal; out = out′ })
-    = subst (Singly s (length es / 8) es out) (sym g) (fed-singly (length es / 8) (reached-kept x .of) es out (omega arith)) in
+    {b : List ℕ} {us : List Use} {rs : List Reply} {l : Lent} → Reached b us rs l → (es E N out : List ℕ) →
+    (tooSmall (length E) (length N) ≡ false → SameUsed l E N) → (r : Ran) (A B out′ : List ℕ) → RunGives (l .session) es E N out r A B out′ →
+    theorem.Block b us rs es E N out r A B out′
+block {b} {us} {rs} {l} x es E N out used r A B out′ g =
+    let p : Singly l (length es / 8) es E N out (ran r A B out′) =
+    subst (Singly l (length es / 8) es E N out) (sym g) (fed-singly (length es / 8) (reached-kept x .of) es E N out used (omega arith)) in
     record {
       offers = p .offers;
       replies = p .replies;
-      reached =
-          record {
-            bytes = x .bytes;
-            begun = x .begun;
-            begins = x .begins;
-            admitted = x .admitted;
-            played = played-append (x .played) (p .played);
-          };
+      left = p .left;
+      same-session = p .same-session;
+      reached = reached-by x (played-append (x .played) (p .played));
+      goes-on = p .goes-on;
       offered = p .offered;
       answered = p .answered;
       listed = p .listed;
@@ -218,6 +303,7 @@ block {b} {us} {rs} {s} x es out r out′ g =
       stops = λ z. ends (p .stops z);
     }
   where
-    ends : (r .taken ≡ length es / 8) ⊎ (length out < 4 * r .listed + 516) → (length es < 8 * r .taken + 8) ⊎ (length out < 4 * r .listed + 516)
+    ends : (r .taken ≡ length es / 8) ⊎ (length out < 4 * r .listed + outputNeeded) →
+        (length es < 8 * r .taken + 8) ⊎ (length out < 4 * r .listed + outputNeeded)
     ends (inl e) = inl (omega arith)
     ends (inr h) = inr h

@@ -4,7 +4,7 @@
 --
 -- Assumes nothing.
 use Rattle.promise.specs.Theorem.{Library}
-use Rattle.promise.specs.Theorem.Replies.{begins, promised, uses-some, uses-one}
+use Rattle.promise.specs.Theorem.Replies.{begins, promised, same, begin-some, event-some, finish-some, uses-one}
 use Rattle.promise.specs.Theorem.Blocks.{first-part, block}
 
 pub library : Library
@@ -13,7 +13,10 @@ library =
       begins = begins;
       keeps = λ x. promised x;
       blocks = λ x. block x;
+      same = same;
       first-part = λ us us′ x. first-part us us′ x;
-      some = uses-some;
-      one = λ b r r′ g g′ p p′. uses-one b r r′ g g′ p p′;
+      some-begin = begin-some;
+      some-event = event-some;
+      some-finish = finish-some;
+      one = λ b E N r r′ g g′ p p′. uses-one b E N r r′ g g′ p p′;
     }

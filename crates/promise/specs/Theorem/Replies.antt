@@ -1,21 +1,28 @@
 -- The proof of what is promised of begin, event and finish.
 --
---   Kept b es us rs t       what a play from the session after es keeps: t is the session after the events accepted by then, the answers are
---                           the meaning's, and the records found are those of the nodes handed out
+--   Kept b es us rs l       what a play from a session after es keeps: l is one after the events accepted by then, the answers are the meaning's, and the
+--                           records found are those of the nodes handed out
 --   play-kept               it does
 --   reached-kept            so does every play from begin on
---   promised                THE REPLIES AND THE SESSION are as promised
+--   promised                THE REPLIES, THE SESSION AND ITS ROOM are as promised
 --   begins                  so is begin's result
---   uses-some, uses-one     every byte string as query and every sequence of uses have replies, and only these
+--   same                    and what a refused event leaves, on any session and room;  event-long: the room is as long as it was
+--   begin-some, event-some, finish-some     every call has a result;  uses-one: every sequence of uses has only one list of replies
 --
 -- Assumes nothing.
-use Prim.Native.Nat.{ℕ, _+_, _*_}
+use Prim.Native.Nat.{ℕ, _+_, _*_, _≤_}
 use native.Mathlib.Omega.{arith}
 use mathlib.Core.Logic.{_↔_}
 use mathlib.Core.Path.{_≡_, refl, sym, ap, ap₂, _∙_, subst}
+use mathlib.Core.Bool.{Bool, true, false}
 use mathlib.Core.List.{List, [], _∷_, _++_, map, flatMap, List·Memᴰ}
-use lib.ListN.{length, take, drop}
-use lib.Seq.{take-at, drop-at}
+use lib.Dec.{eqb}
+use lib.ListN.{length, take, drop, take-append-drop, length-append, length-drop}
+use lib.Seq.{take-at, drop-at, length-take-le}
+use Rattle.choice.specs.Pick.{pick-true, pick-false, pick-known, pick-either}
+use Rattle.choice.specs.Count.{boolByte-le}
+use Rattle.meaning.specs.Limits.{elementsNeeded, nodesNeeded}
+use Rattle.meaning.specs.Refusals.{shortRoom}
 use Rattle.meaning.specs.Query.{Query}
 use Rattle.meaning.specs.Selection.{sure-reading}
 use Rattle.meaning.specs.Explicit.{Selected}
@@ -25,35 +32,39 @@ use Rattle.meaning.specs.Standing.Laws.{Rising}
 use Rattle.meaning.specs.Demands.{list-order, held-order, ruled-out-order, list-explicit, counts-add-up}
 use Rattle.meaning.specs.Stream.{Event, document}
 use Rattle.meaning.specs.Answer as meaning
-use Rattle.meaning.specs.Answer.{Call, answer, after, answers, accepted, handedBy, handedOut}
-use Rattle.meaning.specs.Answer.Laws.{refused-same, finish-same, handed-listed}
-use Rattle.query.specs.declared.QueryAnswer.{QueryAnswer}
-use Rattle.query.specs.declared.QueryAnswer.the-variants.{Admitted, BadLength, BadStep}
+use Rattle.meaning.specs.Answer.{Call, tooSmall, answer, after, answers, accepted, handedBy, handedOut}
+use Rattle.meaning.specs.Answer.Laws.{finish-same, handed-listed}
 use Rattle.query.specs.Answer as checked
-use Rattle.query.specs.Answer.{said, Owed}
+use Rattle.query.specs.Answer.{Owed}
 use Rattle.query.specs.Answer.Laws.{owed-given}
 use Rattle.query.specs.Decode.{decode}
 use Rattle.plan.specs.Planned.{planOf}
-use Rattle.records.specs.Write.{recordsOf, nodesIn}
+use Rattle.plan_bytes.specs.Kept.{keptIn}
+use Rattle.records.specs.Write.{recordsOf, nodesIn, buffer}
 use Rattle.records.specs.Write.Laws.{length-records, records-append, length-nodes}
+use Rattle.feed.specs.Fed.{Came}
+use Rattle.feed.specs.Steps.{Seat, seat, stepAt, Whole}
+use Rattle.feed.specs.Steps.Laws.{whole-step}
 use Rattle.session.specs.declared.Session.{Session}
 use Rattle.session.specs.declared.Begun as given
+use Rattle.session.specs.declared.Start as start
+use Rattle.session.specs.declared.Start.the-variants as started
 use Rattle.session.specs.declared.Step.{Step}
 use Rattle.session.specs.declared.Finish.{Finish}
 use Rattle.session.specs.declared.Finish.the-variants as finish-cases
 use Rattle.session.specs.declared.Answer.{Answer}
 use Rattle.session.specs.declared.Answer.the-variants.{Refused, Taken}
-use Rattle.session.specs.Begin.{fresh, Begun, sessionFor, begun, BeginGives}
+use Rattle.session.specs.Begin.{fresh, said, answerOf as startAnswer, sessionFor, begun, BeginGives}
 use Rattle.session.specs.Begin.Laws.{begin-one}
 use Rattle.session.specs.Event as events
-use Rattle.session.specs.Event.{EventGives}
-use Rattle.session.specs.Event.Laws.{event-one, finish-one}
+use Rattle.session.specs.Event.{Done, refused, numbersOf, settled, within, beside, event, EventGives}
+use Rattle.session.specs.Event.Laws.{event-is, event-one, finish-one}
+use Rattle.session.specs.Run.{Lent, lent}
 use Rattle.session.specs.Told.{told, ended}
-use Rattle.columns.specs.Hand.{buffer, buffer-none}
-use Rattle.promise.specs.Promise.{sessionAfter, Of, Given, begin-answer, begin-of, ruled, event-given, event-of, finish-given}
-use Rattle.promise.specs.Promise.{waiting-held, opened-is, handed-is, count-is}
+use Rattle.promise.specs.Promise.{SameUsed, Of, leftBy, room-long, begin-answer, begin-session, begin-of, ruled}
+use Rattle.promise.specs.Promise.{event-answered, event-of, event-written, finish-given, waiting-held, opened-is, handed-is, held-is}
 use Rattle.promise.specs.Theorem.{Use, offer, ask, Reply, stepped, finish, Played, unused, by-event, by-finish, Reached}
-use Rattle.promise.specs.Theorem.{callOf, answerOf, recordsBy, recordsIn, streamOf, nodesOf, Begins, Promised}
+use Rattle.promise.specs.Theorem.{callOf, answerOf, recordsBy, recordsIn, streamOf, nodesOf, Begins, Promised, Same}
 
 -- a refused event writes nothing
 refused-none : (m : meaning.Answer) (n : ℕ) → meaning.refused n ≡ m → handedBy m ≡ []
@@ -80,71 +91,61 @@ unfolding ended handedBy
 finish-none (finish-cases.Refused n) m e = ap handedBy (sym e)
 finish-none (finish-cases.Ended k h) m e = ap handedBy (sym e)
 
-pub record Kept (b : List ℕ) (es : List Event) (us : List Use) (rs : List Reply) (t : Session) : Type 0 where
-  pub of : Of b (accepted (decode b) es (map callOf us)) t
+pub record Kept (b : List ℕ) (es : List Event) (us : List Use) (rs : List Reply) (l : Lent) : Type 0 where
+  pub of : Of b (accepted (decode b) es (map callOf us)) l
   pub answered : map answerOf rs ≡ answers (decode b) es (map callOf us)
   pub recorded : flatMap recordsIn rs ≡ recordsOf (handedOut (answers (decode b) es (map callOf us)))
 
-pub play-kept : {b : List ℕ} {es : List Event} {s t : Session} {us : List Use} {rs : List Reply} → Of b es s → Played s us rs t → Kept b es us rs t
+pub play-kept : {b : List ℕ} {es : List Event} {l k : Lent} {us : List Use} {rs : List Reply} → Of b es l → Played l us rs k → Kept b es us rs k
 unfolding callOf answerOf recordsIn accepted answers handedOut flatMap
 play-kept o unused = record { of = o; answered = refl; recorded = unfold recordsOf in refl }
-play-kept {b} {es} o (by-event {bytes} {out} {out′} {r} g p) =
-    let c = Call.event bytes (length out) in
-    let e = event-given o bytes out r out′ g in
-    let k = play-kept (event-of o bytes out r out′ g) p in
+play-kept {b} {es} o (by-event {bytes} {E} {N} {out} {E′} {N′} {out′} {r} same g p) =
+    let c = Call.event bytes (record { out = length out; elements = length E; nodes = length N }) in
+    let e : told (r .answer) out′ ≡ answer (decode b) es c = event-answered o bytes E N out same r E′ N′ out′ g in
+    let k = play-kept (event-of o bytes E N out same r E′ N′ out′ g) p in
     record {
       of = k .of;
-      answered = ap₂ _∷_ (e .answered) (k .answered);
+      answered = ap₂ _∷_ e (k .answered);
       recorded =
-          ap₂ _++_ (told-records (r .answer) (answer (decode b) es c) out out′ (e .answered) (e .written)) (k .recorded)
+          ap₂ _++_ (told-records (r .answer) (answer (decode b) es c) out out′ e (event-written o bytes E N out same r E′ N′ out′ g)) (k .recorded)
           ∙ sym (records-append (handedBy (answer (decode b) es c)) _);
     }
-play-kept {b} {es} {s} o (by-finish {f} {us} g p) =
+play-kept {b} {es} {l} o (by-finish {f} {us} g p) =
     let e = finish-given o f g in
     let rest = handedOut (answers (decode b) (after (decode b) es Call.finish) (map callOf us)) in
-    let k = play-kept (subst (λ fs. Of b fs s) (sym (finish-same (decode b) es)) o) p in
+    let k = play-kept (subst (λ fs. Of b fs l) (sym (finish-same (decode b) es)) o) p in
     record {
       of = k .of;
       answered = ap₂ _∷_ e (k .answered);
       recorded = k .recorded ∙ ap (λ (ns : List ℕ). recordsOf (ns ++ rest)) (sym (finish-none f (answer (decode b) es Call.finish) e));
     }
 
-pub reached-kept : {b : List ℕ} {us : List Use} {rs : List Reply} {s : Session} → Reached b us rs s → Kept b [] us rs s
-reached-kept {b} x = play-kept (begin-of b (x .begun) (x .bytes) (x .begins) (x .admitted)) (x .played)
+pub reached-kept : {b : List ℕ} {us : List Use} {rs : List Reply} {l : Lent} → Reached b us rs l → Kept b [] us rs l
+reached-kept {b} x = play-kept (begin-of b (x .E) (x .N) (x .begun) (x .bytes) (x .begins) (x .admitted) (x .E) (x .N)) (x .played)
 
--- an event on the session after es
-module _ {b : List ℕ} {es : List Event} {s : Session} (o : Of b es s) (bytes out out′ : List ℕ) (r : Step) (g : EventGives s bytes out r out′) where
-  abbrev c : Call
-  c = Call.event bytes (length out)
+-- an event on a session after es
+pub event-taken :
+    {b : List ℕ} {es : List Event} {l : Lent} → Of b es l → (bytes E N out E′ N′ out′ : List ℕ) (r : Step) (k : ℕ) →
+    (tooSmall (length E) (length N) ≡ false → SameUsed l E N) → EventGives (l .session) bytes E N out r E′ N′ out′ → r .answer ≡ Taken k →
+    drop (4 * k) out′ ≡ drop (4 * k) out
+unfolding told buffer
+event-taken {b} {es} o bytes E N out E′ N′ out′ r k same g h =
+    let c = Call.event bytes (record { out = length out; elements = length E; nodes = length N }) in
+    let ns = handedBy (answer (decode b) es c) in
+    let many : length ns ≡ k =
+    taken-many (answer (decode b) es c) k out′ (ap (λ (y : Answer). told y out′) (sym h) ∙ event-answered o bytes E N out same r E′ N′ out′ g) in
+    ap (drop (4 * k)) (event-written o bytes E N out same r E′ N′ out′ g)
+    ∙ drop-at (recordsOf ns) _ (4 * k) (length-records ns ∙ ap (λ (n : ℕ). 4 * n) many)
+    ∙ ap (λ (n : ℕ). drop (4 * n) out) many
 
-  abbrev e : Given (decode b) (answer (decode b) es c) (after (decode b) es c) out (record { answer = r .answer; session = r .session; out = out′ })
-  e = event-given o bytes out r out′ g
-
-  pub event-refused : (n : ℕ) → r .answer ≡ Refused n → (r .session ≡ s) × (out′ ≡ out)
-  unfolding told
-  event-refused n h =
-      let a : meaning.refused n ≡ answer (decode b) es c = ap (λ (x : Answer). told x out′) (sym h) ∙ e .answered in (
-        e .next ∙ ap (λ (fs : List Event). sessionAfter (decode b) fs) (refused-same (decode b) es c n (sym a)) ∙ sym (o .is),
-        e .written ∙ ap (λ (ns : List ℕ). buffer ns out) (refused-none (answer (decode b) es c) n a) ∙ buffer-none out,
-      )
-
-  pub event-taken : (k : ℕ) → r .answer ≡ Taken k → drop (4 * k) out′ ≡ drop (4 * k) out
-  unfolding told buffer
-  event-taken k h =
-      let ns = handedBy (answer (decode b) es c) in
-      let l : length ns ≡ k = taken-many (answer (decode b) es c) k out′ (ap (λ (y : Answer). told y out′) (sym h) ∙ e .answered) in
-      ap (drop (4 * k)) (e .written)
-      ∙ drop-at (recordsOf ns) _ (4 * k) (length-records ns ∙ ap (λ (n : ℕ). 4 * n) l)
-      ∙ ap (λ (n : ℕ). drop (4 * n) out) l
-
-module _ {b : List ℕ} {us : List Use} {rs : List Reply} {s : Session} (x : Reached b us rs s) where
+module _ {b : List ℕ} {us : List Use} {rs : List Reply} {l : Lent} (x : Reached b us rs l) where
   abbrev q : Query
   q = decode b
 
   abbrev es : List Event
   es = streamOf b us
 
-  o : Of b es s
+  o : Of b es l
   o = reached-kept x .of
 
   handed-out : nodesOf rs ≡ handedOut (answers q [] (map callOf us))
@@ -153,7 +154,7 @@ module _ {b : List ℕ} {us : List Use} {rs : List Reply} {s : Session} (x : Rea
   nodes-listed : nodesOf rs ≡ listed q (document es)
   nodes-listed = handed-out ∙ handed-listed q (map callOf us)
 
-  pub promised : Promised b us rs s
+  pub promised : Promised b us rs l
   unfolding o
   promised =
       let ok = ruled o .admitted in
@@ -167,79 +168,180 @@ module _ {b : List ℕ} {us : List Use} {rs : List Reply} {s : Session} (x : Rea
         held = λ n. subst (λ ns. List·Memᴰ n ns ↔ HeldBy q es n) (sym (waiting-held o)) (held-exactly q ok es (o .stream) n);
         opened = opened-is o;
         handed = handed-is o ∙ ap length (sym nodes-listed);
-        kept = count-is o ∙ ap length (sym (waiting-held o));
+        kept = held-is o ∙ ap length (sym (waiting-held o));
         ruled = ruledOut q (document es);
         ruled-order = ruled-out-order q (document es);
         ruled-out = ruled-out-exactly q ok es (o .stream);
-        sum = omega (arith, opened-is o, handed-is o, count-is o, counts-add-up q (document es));
+        sum = omega (arith, opened-is o, handed-is o, held-is o, counts-add-up q (document es));
         whole = λ fin n.
             subst (λ ns. List·Memᴰ n ns ↔ Selected q sure-reading (document es) n) (sym nodes-listed) (list-explicit q ok es fin n);
-        refused-same = λ bytes out out′ r n g h. event-refused o bytes out out′ r g n h;
-        rest-same = λ bytes out out′ r k g h. event-taken o bytes out out′ r g k h;
+        rest-same = λ bytes E N out E′ N′ out′ r k same g h. event-taken o bytes E N out E′ N′ out′ r k same g h;
       }
 
--- begin
-refused-session : (a : QueryAnswer) (b : List ℕ) → (a ≡ Admitted → ⊥) → sessionFor (said a) b ≡ fresh (planOf [])
-unfolding said sessionFor
-refused-session Admitted b f = absurd (f refl)
-refused-session BadLength b f = refl
-refused-session (BadStep k) b f = refl
+-- an event on any session and room
 
-begin-session : (b : List ℕ) (r : given.Begun) → BeginGives b r → r .session ≡ sessionFor (said (r .answer)) b
-unfolding begun
-begin-session b r g = ap (λ (y : Begun). y .session) g ∙ ap (λ (a : checked.Answer). sessionFor a b) (sym (begin-answer b r g))
+module _ (s : Session) (bytes E N out : List ℕ) where
+  -- what comes back of a refused event
+  Back : Done → Type 0
+  Back d = (n : ℕ) → d .answer ≡ Refused n → (d .session ≡ s) × ((d .elements ≡ E) × ((d .nodes ≡ N) × (d .out ≡ out)))
 
-pub begins : (b : List ℕ) (r : given.Begun) → BeginGives b r → Begins b r
-begins b r g =
+  -- what lies past the needed room
+  Past : Done → Type 0
+  Past d = (drop elementsNeeded (d .elements) ≡ drop elementsNeeded E) × (drop nodesNeeded (d .nodes) ≡ drop nodesNeeded N)
+
+  abbrev at : Seat
+  at = seat (numbersOf s) (take elementsNeeded E) (take nodesNeeded N)
+
+  abbrev came : Came Seat
+  came = stepAt (keptIn (s .kept)) at bytes out
+
+  back : Back (event s bytes E N out)
+  unfolding event within settled Back
+  back =
+      pick-either Back _ _ _ (λ n e. (refl, (refl, (refl, refl))))
+      (pick-either Back _ _ _ (λ n e. (refl, (refl, (refl, refl))))
+      (pick-either (λ (d : Done). Back (beside E N d)) (eqb (came .refusal) 0) _ _ (λ n e. let z : _≡_ {A = ℕ} 0 1 = cc in absurd (omega arith))
+      (λ n e. (refl, (take-append-drop elementsNeeded E, (take-append-drop nodesNeeded N, refl))))))
+
+  past-beside :
+      (a : Answer) (t : Session) (A B o : List ℕ) → length A ≡ elementsNeeded → length B ≡ nodesNeeded →
+      Past (beside E N (record { answer = a; session = t; elements = A; nodes = B; out = o }))
+  unfolding Past
+  past-beside a t A B o longE longN =
+      (drop-at A (drop elementsNeeded E) elementsNeeded longE, drop-at B (drop nodesNeeded N) nodesNeeded longN)
+
+  past : Past (event s bytes E N out)
+  unfolding event within settled
+  past =
+      pick-either Past _ _ _ (unfold Past in (refl, refl))
+      (pick-known Past (tooSmall (length E) (length N)) _ _ (λ t. unfold Past in (refl, refl))
+      (λ f.
+      let longE : length (take elementsNeeded E) ≡ elementsNeeded = length-take-le elementsNeeded E (room-long E N f .0) in
+      let longN : length (take nodesNeeded N) ≡ nodesNeeded = length-take-le nodesNeeded N (room-long E N f .1) in
+      let whole : Whole (came .seat) =
+      whole-step (keptIn (s .kept)) at bytes out (record { elements = longE; nodes = longN; said = boolByte-le (s .ended) }) in
+      pick-either (λ (d : Done). Past (beside E N d)) (eqb (came .refusal) 0) _ _
+      (past-beside _ _ (came .seat .elements) (came .seat .nodes) _ (whole .elements) (whole .nodes))
+      (past-beside _ _ (take elementsNeeded E) (take nodesNeeded N) _ longE longN)))
+
+  -- the room is as long as it was
+  Long : Done → Type 0
+  Long d = (length (d .elements) ≡ length E) × (length (d .nodes) ≡ length N)
+
+  long-beside :
+      (a : Answer) (t : Session) (A B o : List ℕ) → length A ≡ elementsNeeded → length B ≡ nodesNeeded →
+      (elementsNeeded ≤ length E) × (nodesNeeded ≤ length N) → Long (beside E N (record { answer = a; session = t; elements = A; nodes = B; out = o }))
+  unfolding Long
+  long-beside a t A B o longE longN h = (
+    length-append A (drop elementsNeeded E) ∙ omega (arith, length-drop elementsNeeded E, h .0),
+    length-append B (drop nodesNeeded N) ∙ omega (arith, length-drop nodesNeeded N, h .1),
+  )
+
+  long : Long (event s bytes E N out)
+  unfolding event within settled
+  long =
+      pick-either Long _ _ _ (unfold Long in (refl, refl))
+      (pick-known Long (tooSmall (length E) (length N)) _ _ (λ t. unfold Long in (refl, refl))
+      (λ f.
+      let longE : length (take elementsNeeded E) ≡ elementsNeeded = length-take-le elementsNeeded E (room-long E N f .0) in
+      let longN : length (take nodesNeeded N) ≡ nodesNeeded = length-take-le nodesNeeded N (room-long E N f .1) in
+      let whole : Whole (came .seat) =
+      whole-step (keptIn (s .kept)) at bytes out (record { elements = longE; nodes = longN; said = boolByte-le (s .ended) }) in
+      pick-either (λ (d : Done). Long (beside E N d)) (eqb (came .refusal) 0) _ _
+      (long-beside _ _ (came .seat .elements) (came .seat .nodes) _ (whole .elements) (whole .nodes) (room-long E N f))
+      (long-beside _ _ (take elementsNeeded E) (take nodesNeeded N) _ longE longN (room-long E N f))))
+
+pub same :
+    (s : Session) (bytes E N out : List ℕ) (r : Step) (E′ N′ out′ : List ℕ) → EventGives s bytes E N out r E′ N′ out′ → Same s bytes E N out r E′ N′ out′
+unfolding Back Past
+same s bytes E N out r E′ N′ out′ g =
+    let is = event-is s bytes E N out r E′ N′ out′ g in
     record {
-      answered = subst (Owed b) (sym (begin-answer b r g)) (owed-given b);
-      blank = λ f b′ r′ g′ f′. begin-session b r g ∙ refused-session (r .answer) b f ∙ sym (begin-session b′ r′ g′ ∙ refused-session (r′ .answer) b′ f′);
+      refused-same = subst (Back s bytes E N out) (sym is) (back s bytes E N out);
+      past-same = subst (Past s bytes E N out) (sym is) (past s bytes E N out);
     }
 
--- one list of replies
-played-some : (s : Session) (us : List Use) → (rs : List Reply) × (t : Session) × Played s us rs t
-played-some s [] = ([], s, unused)
-played-some s (offer bytes out ∷ us) =
-    let d = events.event s bytes out in
-    let r : Step = record { answer = d .answer; session = d .session } in
-    let p = played-some (d .session) us in
-    (stepped r (d .out) ∷ p .0, p .1, by-event {r = r} refl (p .2))
-played-some s (ask ∷ us) = let p = played-some s us in (finish (events.finish s) ∷ p .0, p .1, by-finish refl (p .2))
+pub event-long :
+    (s : Session) (bytes E N out : List ℕ) (r : Step) (E′ N′ out′ : List ℕ) → EventGives s bytes E N out r E′ N′ out′ →
+    (length E′ ≡ length E) × (length N′ ≡ length N)
+unfolding Long
+event-long s bytes E N out r E′ N′ out′ g = subst (Long s bytes E N out) (sym (event-is s bytes E N out r E′ N′ out′ g)) (long s bytes E N out)
 
-played-one : {s t t′ : Session} {us : List Use} {rs rs′ : List Reply} → Played s us rs t → Played s us rs′ t′ → (rs ≡ rs′) × (t ≡ t′)
-played-one unused unused = (refl, refl)
-played-one {s} {t} {t′} (by-event {bytes} {out} {out′} {r} {us} g p) (by-event {out′ = out″} {r = r′} {rs = rs′} g′ p′) =
-    let e = event-one s bytes out r r′ out′ out″ g g′ in
-    let k = played-one {t′ = t′} p (subst (λ (y : Step). Played (y .session) us rs′ t′) (sym (e .0)) p′) in
-    (ap₂ _∷_ (ap₂ stepped (e .0) (e .1)) (k .0), k .1)
-played-one {s} (by-finish {f} g p) (by-finish {f = f′} g′ p′) =
-    let k = played-one p p′ in (ap₂ _∷_ (ap finish (finish-one s f f′ g g′)) (k .0), k .1)
+-- begin
+
+refused-session : (a : start.Start) (b : List ℕ) → (a ≡ started.Begun → ⊥) → sessionFor (said a) b ≡ fresh (planOf [])
+unfolding said sessionFor
+refused-session started.Begun b f = absurd (f refl)
+refused-session started.ShortRoom b f = refl
+refused-session started.BadLength b f = refl
+refused-session (started.BadStep k) b f = refl
+
+blank-session :
+    (b E N : List ℕ) (r : given.Begun) → BeginGives b E N r → (r .answer ≡ started.Begun → ⊥) → r .session ≡ fresh (planOf [])
+blank-session b E N r g f =
+    begin-session b E N r g
+    ∙ ap (λ (a : checked.Answer). sessionFor a b) (sym (begin-answer b E N r g))
+    ∙ refused-session (r .answer) b f
+
+pub begins : (b E N : List ℕ) (r : given.Begun) → BeginGives b E N r → Begins b E N r
+unfolding startAnswer
+begins b E N r g =
+    record {
+      small = λ t. begin-answer b E N r g ∙ pick-true (tooSmall (length E) (length N)) (checked.refused shortRoom) (checked.answerTo b) t;
+      answered =
+          λ f. subst (Owed b) (sym (begin-answer b E N r g ∙ pick-false (tooSmall (length E) (length N)) _ (checked.answerTo b) f)) (owed-given b);
+      blank = λ f b′ E′ N′ r′ g′ f′. blank-session b E N r g f ∙ sym (blank-session b′ E′ N′ r′ g′ f′);
+    }
+
+-- every call has a result
 
 -- an answer that is owed is one that the code's enum has
-owed-said : (b : List ℕ) (a : checked.Answer) → Owed b a → (x : QueryAnswer) × (said x ≡ a)
+owed-said : (b : List ℕ) (a : checked.Answer) → Owed b a → (x : start.Start) × (said x ≡ a)
 unfolding said
-owed-said b checked.admitted o = (Admitted, refl)
-owed-said b (checked.refused n) o = (BadLength, ap checked.refused (sym (o .0)))
-owed-said b (checked.refusedAt n k) o = (BadStep k, ap (λ (m : ℕ). checked.refusedAt m k) (sym (o .0)))
+owed-said b checked.admitted o = (started.Begun, refl)
+owed-said b (checked.refused n) o = (started.BadLength, ap checked.refused (sym (o .0)))
+owed-said b (checked.refusedAt n k) o = (started.BadStep k, ap (λ (m : ℕ). checked.refusedAt m k) (sym (o .0)))
 
-begin-some : (b : List ℕ) → (r : given.Begun) × BeginGives b r
+answer-said : (b E N : List ℕ) → (x : start.Start) × (said x ≡ startAnswer b E N)
+unfolding startAnswer
+answer-said b E N =
+    pick-either (λ (a : checked.Answer). (x : start.Start) × (said x ≡ a)) (tooSmall (length E) (length N)) _ _ (started.ShortRoom, unfold said in refl)
+    (owed-said b (checked.answerTo b) (owed-given b))
+
+pub begin-some : (b E N : List ℕ) → (r : given.Begun) × BeginGives b E N r
 unfolding begun
-begin-some b =
-    let x = owed-said b (checked.answerTo b) (owed-given b) in (
-      record { answer = x .0; session = sessionFor (checked.answerTo b) b },
-      ap (λ (a : checked.Answer). record { answer = a; session = sessionFor (checked.answerTo b) b }) (x .1),
+begin-some b E N =
+    let x = answer-said b E N in (
+      record { answer = x .0; session = sessionFor (startAnswer b E N) b },
+      ap (λ (a : checked.Answer). record { answer = a; session = sessionFor (startAnswer b E N) b }) (x .1),
     )
 
-pub uses-some : (b : List ℕ) (us : List Use) → (r : given.Begun) × (rs : List Reply) × (t : Session) × BeginGives b r × Played (r .session) us rs t
-uses-some b us =
-    let g = begin-some b in
-    let p = played-some (g .0 .session) us in
-    (g .0, p .0, p .1, g .1, p .2)
+pub event-some :
+    (s : Session) (bytes E N out : List ℕ) → (r : Step) × (E′ : List ℕ) × (N′ : List ℕ) × (out′ : List ℕ) × EventGives s bytes E N out r E′ N′ out′
+event-some s bytes E N out =
+    let d = event s bytes E N out in (record { answer = d .answer; session = d .session }, d .elements, d .nodes, d .out, refl)
+
+pub finish-some : (s : Session) → (f : Finish) × events.FinishGives s f
+finish-some s = (events.finish s, refl)
+
+-- one list of replies
+
+played-one : {l k k′ : Lent} {us : List Use} {rs rs′ : List Reply} → Played l us rs k → Played l us rs′ k′ → (rs ≡ rs′) × (k ≡ k′)
+played-one unused unused = (refl, refl)
+played-one {l} {k} {k′} (by-event {bytes} {E} {N} {out} {E′} {N′} {out′} {r} {us} same g p)
+    (by-event {E′ = E″} {N′ = N″} {out′ = out″} {r = r′} {rs = rs′} same′ g′ p′) =
+    let e = event-one (l .session) bytes E N out r r′ E′ E″ N′ N″ out′ out″ g g′ in
+    let left : leftBy l E N (r .session) E′ N′ ≡ leftBy l E N (r′ .session) E″ N″ =
+    λ i. leftBy l E N (e .0 i .session) (e .1 .0 i) (e .1 .1 .0 i) in
+    let rest = played-one {k′ = k′} p (subst (λ (m : Lent). Played m us rs′ k′) (sym left) p′) in
+    (ap₂ _∷_ (λ i. stepped (e .0 i) (e .1 .0 i) (e .1 .1 .0 i) (e .1 .1 .1 i)) (rest .0), rest .1)
+played-one {l} (by-finish {f} g p) (by-finish {f = f′} g′ p′) =
+    let rest = played-one p p′ in (ap₂ _∷_ (ap finish (finish-one (l .session) f f′ g g′)) (rest .0), rest .1)
 
 pub uses-one :
-    (b : List ℕ) (r r′ : given.Begun) {us : List Use} {rs rs′ : List Reply} {t t′ : Session} → BeginGives b r → BeginGives b r′ →
-    Played (r .session) us rs t → Played (r′ .session) us rs′ t′ → (r ≡ r′) × (rs ≡ rs′) × (t ≡ t′)
-uses-one b r r′ {us} {rs} {rs′} {t} {t′} g g′ p p′ =
-    let e = begin-one b r r′ g g′ in
-    let k = played-one {t′ = t′} p (subst (λ (x : given.Begun). Played (x .session) us rs′ t′) (sym e) p′) in
+    (b E N : List ℕ) (r r′ : given.Begun) {us : List Use} {rs rs′ : List Reply} {l l′ : Lent} → BeginGives b E N r → BeginGives b E N r′ →
+    Played (lent (r .session) E N) us rs l → Played (lent (r′ .session) E N) us rs′ l′ → (r ≡ r′) × (rs ≡ rs′) × (l ≡ l′)
+uses-one b E N r r′ {us} {rs} {rs′} {l} {l′} g g′ p p′ =
+    let e = begin-one b E N r r′ g g′ in
+    let k = played-one {k′ = l′} p (subst (λ (x : given.Begun). Played (lent (x .session) E N) us rs′ l′) (sym e) p′) in
     (e, k .0, k .1)

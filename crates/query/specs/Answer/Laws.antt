@@ -16,8 +16,9 @@ use native.Mathlib.Nat.{not-suc-le-zero}
 use native.Mathlib.Omega.{arith}
 use borrow.Author.Count.{below-more}
 use lib.ListN.{length}
+use Rattle.meaning.specs.Refusals.{badLength, badStep}
 use Rattle.query.specs.Rules.{wrongLength, steps, keeps}
-use Rattle.query.specs.Answer.{badLength, badStep, Answer, admitted, refused, refusedAt, said, FirstBreaking}
+use Rattle.query.specs.Answer.{Answer, admitted, refused, refusedAt, said, FirstBreaking}
 use Rattle.query.specs.Answer.{Kept, Owed, ifKept, judgedFrom, judged, ifWrong, answerTo, CheckGives}
 use Rattle.query.specs.declared.QueryAnswer.{QueryAnswer}
 use Rattle.query.specs.declared.QueryAnswer.the-variants.{Admitted, BadLength, BadStep}

@@ -1,6 +1,6 @@
 -- What the calls of begin give together, and that begin's promise allows one result.
 --
---   elements-room, nodes-room     the needed room as numbers;  short-elements, short-nodes, room-enough: whether it is there
+--   elements-is, nodes-is     the needed room as numbers;  short-elements, short-nodes, room-enough: whether it is there
 --   begin-short                                   the lent room is too small
 --   begin-admitted, begin-long, begin-broken      for each case of the check's answer: the answer and the session beside it
 --   begin-one                                     two results that the promise of `begin` allows are equal
@@ -14,41 +14,20 @@ use mathlib.Core.List.{List, []}
 use lib.ListN.{length}
 use borrow.Author.Tests.{lt-ltb, le-ltb}
 use Rattle.choice.specs.Pick.{pick-true, pick-false}
+use Rattle.meaning.specs.Answer.{tooSmall}
 use Rattle.plan.specs.declared.Plan.{Plan}
 use Rattle.plan.specs.Planned.{planOf}
 use Rattle.query.specs.declared.QueryAnswer.{QueryAnswer}
 use Rattle.query.specs.declared.QueryAnswer.the-variants.{Admitted, BadLength, BadStep}
 use Rattle.query.specs.Answer.{answerTo}
 use Rattle.query.specs.Answer as query
-use Rattle.element.specs.Element.{elementsRoom}
 use Rattle.element.specs.Element.Laws as element
-use Rattle.node.specs.Node.{nodesRoom}
 use Rattle.node.specs.Node.Laws as node
-use Rattle.step.specs.Step.Laws.{depth-is, held-is}
 use Rattle.session.specs.declared.Begun as given
 use Rattle.session.specs.declared.Session.{Session}
 use Rattle.session.specs.declared.Start as start
 use Rattle.session.specs.declared.Start.the-variants as started
-use Rattle.session.specs.Begin.{fresh, shortRoom, said, Begun, answerOf, sessionFor, begun, BeginGives}
-
-pub elements-room : elementsRoom ≡ 16384
-elements-room = omega (arith, element.room-is, depth-is)
-
-pub nodes-room : nodesRoom ≡ 32768
-nodes-room = omega (arith, node.room-is, held-is)
-
-module _ (E N : List ℕ) where
-  pub short-elements : length E < elementsRoom → shortRoom E N ≡ true
-  unfolding shortRoom
-  short-elements h = pick-true _ _ _ (lt-ltb _ _ h)
-
-  pub short-nodes : elementsRoom ≤ length E → length N < nodesRoom → shortRoom E N ≡ true
-  unfolding shortRoom
-  short-nodes h k = pick-false _ _ _ (le-ltb _ _ h) ∙ lt-ltb _ _ k
-
-  pub room-enough : elementsRoom ≤ length E → nodesRoom ≤ length N → shortRoom E N ≡ false
-  unfolding shortRoom
-  room-enough h k = pick-false _ _ _ (le-ltb _ _ h) ∙ le-ltb _ _ k
+use Rattle.session.specs.Begin.{fresh, said, Begun, answerOf, sessionFor, begun, BeginGives}
 
 module _ (q E N : List ℕ) (a : start.Start) (s : Session) where
   -- the answer, and the session beside it
@@ -57,13 +36,13 @@ module _ (q E N : List ℕ) (a : start.Start) (s : Session) where
   beside ea es = ap (λ (t : Session). record { answer = said a; session = t }) es ∙ ap (λ x. record { answer = x; session = sessionFor x q }) ea
 
   pub begin-short :
-      (plan : Plan) → a ≡ started.ShortRoom → shortRoom E N ≡ true → plan ≡ planOf [] → s ≡ fresh plan →
+      (plan : Plan) → a ≡ started.ShortRoom → tooSmall (length E) (length N) ≡ true → plan ≡ planOf [] → s ≡ fresh plan →
       BeginGives q E N (record { answer = a; session = s })
   unfolding said answerOf sessionFor
   begin-short plan ea h ep es =
       beside (ap said ea ∙ sym (pick-true _ _ _ h)) (es ∙ ap fresh ep ∙ ap (λ x. sessionFor (said x) q) (sym ea))
 
-  module _ (enough : shortRoom E N ≡ false) (plan : Plan) (es : s ≡ fresh plan) (c : QueryAnswer) (checked : query.said c ≡ answerTo q) where
+  module _ (enough : tooSmall (length E) (length N) ≡ false) (plan : Plan) (es : s ≡ fresh plan) (c : QueryAnswer) (checked : query.said c ≡ answerTo q) where
     asked : query.said c ≡ answerOf q E N
     unfolding answerOf
     asked = checked ∙ sym (pick-false _ _ _ enough)

@@ -16,13 +16,16 @@ use lib.ListN.{length, take, drop}
 use borrow.Author.Tests.{eq-eqb, ne-eqb, lt-ltb, le-ltb}
 use Rattle.choice.specs.Pick.{pick-yes, pick-no}
 use Rattle.meaning.specs.Record.{eventOf}
+use Rattle.meaning.specs.Refusals.{shortOutput, shortRoom}
+use Rattle.meaning.specs.Answer.{tooSmall}
+use Rattle.meaning.specs.Limits.{outputNeeded, elementsNeeded, nodesNeeded}
 use Rattle.records.specs.Read.{shown}
 use Rattle.words.specs.Words.{Bytes}
-use Rattle.element.specs.Element.{elementsRoom, elementsIn}
-use Rattle.node.specs.Node.{nodesRoom, queueIn}
+use Rattle.element.specs.Element.{elementsIn}
+use Rattle.node.specs.Node.{queueIn}
 use Rattle.numbers.specs.Numbers.{Numbers}
 use Rattle.plan_bytes.specs.Kept.{keptIn}
-use Rattle.step.specs.Step.{outputNeeded, after, step}
+use Rattle.step.specs.Step.{after, step}
 use Rattle.feed.specs.Fed.{Came}
 use Rattle.feed.specs.Steps.{Seat, seat, came, stepAt}
 use Rattle.feed.specs.Steps.Laws.{step-came, refused-at}
@@ -31,7 +34,6 @@ use Rattle.session.specs.declared.Answer.{Answer}
 use Rattle.session.specs.declared.Answer.the-variants.{Refused, Taken}
 use Rattle.session.specs.declared.Step.{Step}
 use Rattle.session.specs.declared.Finish as finished
-use Rattle.session.specs.Begin.{shortRoom}
 use Rattle.session.specs.Event.{Done, refused, numbersOf, withNumbers, settled, within, beside, event}
 use Rattle.session.specs.Event.{ToldDone, toldAs, toldOf, EventGives, finish, FinishGives}
 use Rattle.session.specs.Told.{told, told-one, ended-one}
@@ -44,8 +46,8 @@ with-parts s n depth held opened handed ended e₁ e₂ e₃ e₄ e₅ =
     λ i. record { kept = s .kept; depth = e₁ i; held = e₂ i; opened = e₃ i; handed = e₄ i; ended = not (eqb (e₅ i) 0) }
 
 -- on the room that is needed; E′ and N′ are what it holds on return
-module _ (s : Session) (bytes E N out E′ N′ out′ : List ℕ) (refusal given : ℕ) (n n′ : Numbers) (longE : length E ≡ elementsRoom)
-    (longN : length N ≡ nodesRoom) (longE′ : length E′ ≡ elementsRoom) (longN′ : length N′ ≡ nodesRoom) (bE : Bytes E) (bN : Bytes N) (bE′ : Bytes E′)
+module _ (s : Session) (bytes E N out E′ N′ out′ : List ℕ) (refusal given : ℕ) (n n′ : Numbers) (longE : length E ≡ elementsNeeded)
+    (longN : length N ≡ nodesNeeded) (longE′ : length E′ ≡ elementsNeeded) (longN′ : length N′ ≡ nodesNeeded) (bE : Bytes E) (bN : Bytes N) (bE′ : Bytes E′)
     (bN′ : Bytes N′) (laid-as : n ≡ numbersOf s)
     (stepped : after refusal given n′ (elementsIn E′) (queueIn N′) out′
     ≡ step (keptIn (s .kept)) (shown (eventOf bytes)) n (elementsIn E) (queueIn N) out) where
@@ -82,18 +84,18 @@ module _ (s : Session) (bytes E N out E′ N′ out′ : List ℕ) (refusal give
 -- on any room
 
 module _ (s : Session) (bytes E N out : List ℕ) where
-  pub event-short : length out < outputNeeded → toldAs (Refused 1) s E N out ≡ toldOf (event s bytes E N out)
+  pub event-short : length out < outputNeeded → toldAs (Refused shortOutput) s E N out ≡ toldOf (event s bytes E N out)
   unfolding event
   event-short h = ap (λ (d : Done). toldOf d) (pick-yes _ (refused 1 s E N out) _ _ (lt-ltb _ _ h) refl)
 
-  pub event-small : outputNeeded ≤ length out → shortRoom E N ≡ true → toldAs (Refused 15) s E N out ≡ toldOf (event s bytes E N out)
+  pub event-small : outputNeeded ≤ length out → tooSmall (length E) (length N) ≡ true → toldAs (Refused shortRoom) s E N out ≡ toldOf (event s bytes E N out)
   unfolding event
   event-small h k =
       ap (λ (d : Done). toldOf d) (pick-no _ (refused 15 s E N out) _ _ (le-ltb _ _ h) (pick-yes _ (refused 15 s E N out) _ _ k refl))
 
   event-within :
-      (d : Done) (E′ N′ : List ℕ) → outputNeeded ≤ length out → shortRoom E N ≡ false → d ≡ within s bytes (take elementsRoom E) (take nodesRoom N) out →
-      E′ ≡ d .elements ++ drop elementsRoom E → N′ ≡ d .nodes ++ drop nodesRoom N →
+      (d : Done) (E′ N′ : List ℕ) → outputNeeded ≤ length out → tooSmall (length E) (length N) ≡ false → d ≡ within s bytes (take elementsNeeded E) (take nodesNeeded N) out →
+      E′ ≡ d .elements ++ drop elementsNeeded E → N′ ≡ d .nodes ++ drop nodesNeeded N →
       toldAs (d .answer) (d .session) E′ N′ (d .out) ≡ toldOf (event s bytes E N out)
   unfolding event
   event-within d E′ N′ h k e eE eN =
@@ -103,8 +105,8 @@ module _ (s : Session) (bytes E N out : List ℕ) where
 
 -- by the parts of the room that were lent on: k and l are how long they are
 pub event-parts :
-    (s : Session) (bytes E N out : List ℕ) (a : Answer) (t : Session) (A B out′ : List ℕ) (k l : ℕ) → elementsRoom ≡ k → nodesRoom ≡ l →
-    outputNeeded ≤ length out → shortRoom E N ≡ false →
+    (s : Session) (bytes E N out : List ℕ) (a : Answer) (t : Session) (A B out′ : List ℕ) (k l : ℕ) → elementsNeeded ≡ k → nodesNeeded ≡ l →
+    outputNeeded ≤ length out → tooSmall (length E) (length N) ≡ false →
     _≡_ {A = Done} (record { answer = a; session = t; elements = A; nodes = B; out = out′ }) (within s bytes (take k E) (take l N) out) →
     toldAs a t (A ++ drop k E) (B ++ drop l N) out′ ≡ toldOf (event s bytes E N out)
 event-parts s bytes E N out a t A B out′ k l ek el h f e =

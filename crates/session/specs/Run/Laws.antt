@@ -20,20 +20,19 @@ use lib.Seq.{length-take-le, take-at, drop-at}
 use borrow.Author.Tests.{eqb-true, eqb-false, ne-eqb, lt-ltb, le-ltb}
 use Rattle.choice.specs.Pick.{pick, pick-true, pick-false, pick-yes, pick-no, pick-known}
 use Rattle.choice.specs.Count.{boolByte-le}
-use Rattle.element.specs.Element.{elementsRoom}
-use Rattle.node.specs.Node.{nodesRoom}
+use Rattle.meaning.specs.Refusals.{shortRoom}
+use Rattle.meaning.specs.Answer.{tooSmall}
+use Rattle.meaning.specs.Answer.Laws.{not-small}
+use Rattle.meaning.specs.Limits.{outputNeeded, elementsNeeded, nodesNeeded}
 use Rattle.numbers.specs.Numbers.{Numbers}
 use Rattle.plan.specs.Plan.{Plan}
 use Rattle.plan_bytes.specs.Kept.{keptIn}
-use Rattle.step.specs.Step.{outputNeeded}
 use Rattle.feed.specs.Fed.{Came, Fed, one, andThen, fed}
 use Rattle.feed.specs.Fed.Across.{across, allAcross, Alike, fed-across}
 use Rattle.feed.specs.Steps.{Seat, seat, came, stepAt, Whole}
 use Rattle.feed.specs.Steps.Laws.{refused-at, whole-step}
 use Rattle.session.specs.declared.Session.{Session}
 use Rattle.session.specs.declared.Ran.{Ran}
-use Rattle.session.specs.Begin.{shortRoom}
-use Rattle.session.specs.Begin.Laws.{room-enough}
 use Rattle.session.specs.Event.{Done, numbersOf, withNumbers, settled, within, beside, event}
 use Rattle.session.specs.Run.{Lent, lent, refusalOf, givenOf, cameTo, eventAt, ran, runWithin, RunGives}
 
@@ -68,21 +67,21 @@ module _ (s : Session) (A B : List ℕ) (t : Seat) (bytes out : List ℕ) (w : W
   abbrev now : Session
   now = withNumbers s (t .numbers)
 
-  fit-E : take elementsRoom (t .elements ++ A) ≡ t .elements
-  fit-E = take-at (t .elements) A elementsRoom (w .elements)
+  fit-E : take elementsNeeded (t .elements ++ A) ≡ t .elements
+  fit-E = take-at (t .elements) A elementsNeeded (w .elements)
 
-  fit-N : take nodesRoom (t .nodes ++ B) ≡ t .nodes
-  fit-N = take-at (t .nodes) B nodesRoom (w .nodes)
+  fit-N : take nodesNeeded (t .nodes ++ B) ≡ t .nodes
+  fit-N = take-at (t .nodes) B nodesNeeded (w .nodes)
 
-  rest-E : drop elementsRoom (t .elements ++ A) ≡ A
-  rest-E = drop-at (t .elements) A elementsRoom (w .elements)
+  rest-E : drop elementsNeeded (t .elements ++ A) ≡ A
+  rest-E = drop-at (t .elements) A elementsNeeded (w .elements)
 
-  rest-N : drop nodesRoom (t .nodes ++ B) ≡ B
-  rest-N = drop-at (t .nodes) B nodesRoom (w .nodes)
+  rest-N : drop nodesNeeded (t .nodes ++ B) ≡ B
+  rest-N = drop-at (t .nodes) B nodesNeeded (w .nodes)
 
-  enough : shortRoom (t .elements ++ A) (t .nodes ++ B) ≡ false
+  enough : tooSmall (length (t .elements ++ A)) (length (t .nodes ++ B)) ≡ false
   enough =
-      room-enough _ _ (omega (arith, length-append (t .elements) A, w .elements)) (omega (arith, length-append (t .nodes) B, w .nodes))
+      not-small _ _ (omega (arith, length-append (t .elements) A, w .elements)) (omega (arith, length-append (t .nodes) B, w .nodes))
 
   within-is : within now bytes (t .elements) (t .nodes) out ≡ settled now (t .elements) (t .nodes) out (stepAt P t bytes out)
   unfolding within
@@ -167,13 +166,13 @@ module _ (s : Session) (es E N out : List ℕ) where
 
   -- "15 comes directly after 1 and before all others"
   small-event :
-      (bytes : List ℕ) → outputNeeded ≤ length out → shortRoom E N ≡ true →
+      (bytes : List ℕ) → outputNeeded ≤ length out → tooSmall (length E) (length N) ≡ true →
       eventAt (lent s E N) bytes out ≡ record { refusal = 15; given = 0; seat = lent s E N; out = out }
   unfolding eventAt event refusalOf givenOf
   small-event bytes h k = ap (λ (d : Done). cameTo d) (pick-false _ _ _ (le-ltb _ _ h) ∙ pick-true _ _ _ k)
 
   small :
-      (n : ℕ) → 0 < n → outputNeeded ≤ length out → shortRoom E N ≡ true → ran (stayed s 15) E N out ≡ fed eventAt n (lent s E N) es out
+      (n : ℕ) → 0 < n → outputNeeded ≤ length out → tooSmall (length E) (length N) ≡ true → ran (stayed s shortRoom) E N out ≡ fed eventAt n (lent s E N) es out
   unfolding fed
   small zero l h k = absurd (omega arith)
   small (suc n) l h k =
@@ -182,15 +181,15 @@ module _ (s : Session) (es E N out : List ℕ) where
       (andThen (one c) (fed eventAt n (c .seat) (drop 8 es) (drop (4 * c .given) (c .out)))) (one c)) (small-event (take 8 es) h k)
       ∙ pick-false _ _ _ (ne-eqb 15 0 (λ z. omega arith))))
 
-  pub run-small : (r : Ran) → r ≡ stayed s 15 → 8 ≤ length es → outputNeeded ≤ length out → shortRoom E N ≡ true → Gives r
+  pub run-small : (r : Ran) → r ≡ stayed s shortRoom → 8 ≤ length es → outputNeeded ≤ length out → tooSmall (length E) (length N) ≡ true → Gives r
   run-small r e l h k = still 15 r e (small (length es / 8) (omega arith) h k)
 
 -- any other block: k and l are how long the parts of the room are that were lent on
 
-whole-at : (s : Session) (E N : List ℕ) → length E ≡ elementsRoom → length N ≡ nodesRoom → Whole (seat (numbersOf s) E N)
+whole-at : (s : Session) (E N : List ℕ) → length E ≡ elementsNeeded → length N ≡ nodesNeeded → Whole (seat (numbersOf s) E N)
 whole-at s E N e f = record { elements = e; nodes = f; said = boolByte-le (s .ended) }
 
-module _ (s : Session) (es E N out : List ℕ) (k l : ℕ) (ek : elementsRoom ≡ k) (el : nodesRoom ≡ l) (longE : k ≤ length E) (longN : l ≤ length N) where
+module _ (s : Session) (es E N out : List ℕ) (k l : ℕ) (ek : elementsNeeded ≡ k) (el : nodesNeeded ≡ l) (longE : k ≤ length E) (longN : l ≤ length N) where
   start-is : lent s E N ≡ seen s (drop k E) (drop l N) (seat (numbersOf s) (take k E) (take l N))
   start-is = λ i. lent (sym (again s) i) (sym (take-append-drop k E) i) (sym (take-append-drop l N) i)
 

@@ -3,7 +3,8 @@ use borrow.Author.Needs.{needs}
 use native.Mathlib.Omega.{arith}
 use borrow.Author.Tests.{not-true, not-false}
 use mathlib.Core.Path.{sym, _∙_}
-use Rattle.step.specs.Step.Laws.{room-is, over-dead, over-copied}
+use Rattle.meaning.specs.Limits.Laws.{elements-is}
+use Rattle.step.specs.Step.Laws.{over-dead, over-copied}
 use Rattle.step.proofs.brim.Statement.{statement}
 use Rattle.step.proofs.brim.Tie as tie
 
@@ -25,14 +26,14 @@ slice-aggregate-copy : tie.Need-slice-aggregate-copy
 slice-aggregate-copy c = search needs
 
 copy-requires : tie.Need-copy-requires
-copy-requires c κs = omega (arith, room-is)
+copy-requires c κs = omega (arith, elements-is)
 
 slice-aggregate-opening : tie.Need-slice-aggregate-opening
 slice-aggregate-opening c = search needs
 
 opening-requires : tie.Need-opening-requires
 opening-requires c κs = let p = c .before .before .before .before .before .before .before .before .before .before .before .pre in
-    ((p .0 .0, (omega (arith, room-is), p .0 .1 .1)), p .1)
+    ((p .0 .0, (omega (arith, elements-is), p .0 .1 .1)), p .1)
 
 no-place-requires : tie.Need-no-place-requires
 no-place-requires c κs = search needs

@@ -2,11 +2,12 @@
 use borrow.Author.Needs.{needs}
 use native.Mathlib.Omega.{arith}
 use mathlib.Core.Path.{_∙_}
+use Rattle.meaning.specs.Limits.Laws.{depth-is, held-is, output-is}
 use Rattle.numbers.specs.Numbers.{numbersIn}
 use Rattle.element.specs.Element.{elementsIn}
 use Rattle.node.specs.Node.{queueIn}
 use Rattle.plan_bytes.specs.Kept.{keptIn}
-use Rattle.step.specs.Step.Laws.{depth-is, held-is, output-is, refused-as, zero-few, close-refused, close-done}
+use Rattle.step.specs.Step.Laws.{refused-as, zero-few, close-refused, close-done}
 use Rattle.step.proofs.close.Statement.{statement}
 use Rattle.step.proofs.close.Tie as tie
 
@@ -90,7 +91,7 @@ hand-out-requires c κs = (
         c .before .before .front-if .ensures .1,
         (
           omega (arith, at-move-out .move-out .ensures .1, at-get2 .get2 .ensures, fits .held),
-          omega (arith, output-is, at-move-out .move-out .ensures .1, at-get2 .get2 .ensures, fits .held, start .pre .1 .1 .1),
+          omega (arith, output-is, held-is, at-move-out .move-out .ensures .1, at-get2 .get2 .ensures, fits .held, start .pre .1 .1 .1),
         ),
       ),
 )
@@ -156,7 +157,7 @@ returns-2 c = let at-hand-out = c .before .before .before .before .before .befor
           (at-move-out .move-out .ensures .0)
           (at-front-if .front-if .ensures .0) (at-hand-out .hand-out .ensures) (c .before .before .count-close .ensures),
       let fits = at-refuse-close .refuse-close .ensures .1 (at-if1 .if1 .left) in
-          omega (arith, output-is, at-front-if .front-if .ensures .1, at-move-out .move-out .ensures .1, at-get2 .get2 .ensures, fits .held),
+          omega (arith, output-is, held-is, at-front-if .front-if .ensures .1, at-move-out .move-out .ensures .1, at-get2 .get2 .ensures, fits .held),
     )
 
 pub close-spec : {M : Type 1} → statement M

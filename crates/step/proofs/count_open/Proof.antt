@@ -1,7 +1,8 @@
 -- What was read and written, put together. Assumes nothing.
 use borrow.Author.Needs.{needs}
 use native.Mathlib.Omega.{arith}
-use Rattle.step.specs.Step.Laws.{depth-is, count-open}
+use Rattle.meaning.specs.Limits.Laws.{depth-is, node-limit-is}
+use Rattle.step.specs.Step.Laws.{count-open}
 use Rattle.step.proofs.count_open.Statement.{statement}
 use Rattle.step.proofs.count_open.Tie as tie
 
@@ -20,7 +21,7 @@ add-write c = let at-get = c .before .before .before .before .before in
     omega (arith, depth-is, at-get .get .ensures, start .pre .1 .deep)
 
 add-write-2 : tie.Need-add-write-2
-add-write-2 c = omega (arith, c .before .before .before .get2 .ensures, c .before .before .before .before .before .before .before .before .pre .1 .few)
+add-write-2 c = omega (arith, node-limit-is, c .before .before .before .get2 .ensures, c .before .before .before .before .before .before .before .before .pre .1 .few)
 
 wrapping-add-u32-requires : tie.Need-wrapping-add-u32-requires
 wrapping-add-u32-requires c κs = search needs

@@ -1,7 +1,8 @@
 -- Below the brim, or at it. Assumes nothing.
 use borrow.Author.Needs.{needs}
 use native.Mathlib.Omega.{arith}
-use Rattle.step.specs.Step.Laws.{held-is, over-not}
+use Rattle.meaning.specs.Limits.Laws.{held-is}
+use Rattle.step.specs.Step.Laws.{over-not}
 use Rattle.step.proofs.full.Statement.{statement}
 use Rattle.step.proofs.full.Tie as tie
 

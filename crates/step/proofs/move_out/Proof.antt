@@ -1,7 +1,8 @@
 -- What each call answered, put together. Assumes nothing.
 use borrow.Author.Needs.{needs}
 use native.Mathlib.Omega.{arith}
-use Rattle.step.specs.Step.Laws.{depth-is, move-told}
+use Rattle.meaning.specs.Limits.Laws.{depth-is}
+use Rattle.step.specs.Step.Laws.{move-told}
 use Rattle.step.proofs.move_out.Statement.{statement}
 use Rattle.step.proofs.move_out.Tie as tie
 

@@ -2,7 +2,7 @@
 use borrow.Author.Needs.{needs}
 use mathlib.Core.Path.{refl}
 use Rattle.choice.specs.Pick.{pick-yes, pick-no}
-use Rattle.node.specs.Node.{mostHeld}
+use Rattle.meaning.specs.Limits.{heldLimit}
 use Rattle.step.specs.Step.{noPlace}
 use Rattle.step.proofs.no_place.Statement.{statement}
 use Rattle.step.proofs.no_place.Tie as tie
@@ -15,7 +15,7 @@ sub-result : tie.Need-sub-result
 sub-result c = search needs
 
 returns-2 : tie.Need-returns-2
-unfolding noPlace mostHeld
+unfolding noPlace heldLimit
 returns-2 c = pick-no _ _ _ _ (c .before .before .if1 .left) (pick-yes _ _ _ _ (c .before .if2 .taken) refl)
 
 returns-3 : tie.Need-returns-3

@@ -3,12 +3,13 @@ use borrow.Author.Needs.{needs}
 use native.Mathlib.Omega.{arith}
 use mathlib.Core.Path.{refl, ap, _∙_}
 use Rattle.choice.specs.Count.{boolByte-le}
+use Rattle.meaning.specs.Limits.Laws.{depth-is, held-is, node-limit-is, output-is}
 use Rattle.numbers.specs.Numbers.{numbersIn}
 use Rattle.element.specs.Element.{elementsIn}
 use Rattle.node.specs.Node.{queueIn}
 use Prim.Native.Nat.{_+_}
 use Rattle.plan_bytes.specs.Kept.{keptIn}
-use Rattle.step.specs.Step.Laws.{depth-is, held-is, output-is, has-place, refused-as, zero-few, open-refused, open-full, open-done}
+use Rattle.step.specs.Step.Laws.{has-place, refused-as, zero-few, open-refused, open-full, open-done}
 use Rattle.step.proofs.open.Statement.{statement}
 use Rattle.step.proofs.open.Tie as tie
 
@@ -95,7 +96,7 @@ add-number : tie.Need-add-number
 add-number c = let at-if1 = c .before .before .before .before .before .before .before .before .before .before .before .before .before .before .before in
     let at-refuse-open = at-if1 .before in
     let fits = at-refuse-open .refuse-open .ensures .1 (at-if1 .if1 .left) in
-    omega (arith, c .get3 .ensures, fits .few)
+    omega (arith, node-limit-is, c .get3 .ensures, fits .few)
 
 add-join : tie.Need-add-join
 add-join c = let at-get = c .before .before .before .before .before .before .before .before .before .before .before .before .before in
@@ -127,7 +128,7 @@ join-requires c κs = let at-opening = c .before .before .before .before .before
           at-opening .opening .ensures .1,
           (
             omega (arith, at-get2 .get2 .ensures, fits .held),
-            omega (arith, output-is, at-get2 .get2 .ensures, fits .held, start .pre .1 .1 .1),
+            omega (arith, output-is, held-is, at-get2 .get2 .ensures, fits .held, start .pre .1 .1 .1),
           ),
         ),
       ),
@@ -194,7 +195,7 @@ returns-3 c = let at-join = c .before .before .before .before .before .before .b
           (at-full .full .ensures) (at-if2 .if2 .left) (at-opening .opening .ensures .0) (ap (λ k. k + 1) (at-get3 .get3 .ensures)) refl
           (at-join .join .ensures .0) (c .before .before .count-open .ensures),
       let fits = at-refuse-open .refuse-open .ensures .1 (at-if1 .if1 .left) in
-          omega (arith, output-is, at-opening .opening .ensures .1, at-get2 .get2 .ensures, fits .held, boolByte-le (at-opening .opening .result .all)),
+          omega (arith, output-is, held-is, at-opening .opening .ensures .1, at-get2 .get2 .ensures, fits .held, boolByte-le (at-opening .opening .result .all)),
     )
 
 pub open-spec : {M : Type 1} → statement M

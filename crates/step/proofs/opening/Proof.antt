@@ -1,7 +1,7 @@
 -- What each call answered, put together (Step.Laws, opening-told). Assumes nothing.
 use borrow.Author.Needs.{needs}
 use native.Mathlib.Omega.{arith}
-use Rattle.element.specs.Element.{mostOpen}
+use Rattle.meaning.specs.Limits.{depthLimit}
 use Rattle.step.specs.Step.Laws.{opening-told}
 use Rattle.step.proofs.opening.Statement.{statement}
 use Rattle.step.proofs.opening.Tie as tie
@@ -19,7 +19,7 @@ push-requires : tie.Need-push-requires
 push-requires c κs = search needs
 
 add-front-if : tie.Need-add-front-if
-unfolding mostOpen
+unfolding depthLimit
 add-front-if c = search needs
 
 front-if-requires : tie.Need-front-if-requires

@@ -5,11 +5,12 @@ use mathlib.Core.Path.{refl, sym, _∙_}
 use Rattle.choice.specs.Pick.{pick-yes, pick-no}
 use native.Mathlib.Nat.{lt-of-le-of-lt}
 use Rattle.choice.specs.Count.{positive}
-use Rattle.element.specs.Element.{mostOpen, elementsIn}
-use Rattle.node.specs.Node.{mostHeld}
+use Rattle.meaning.specs.Limits.{depthLimit, heldLimit}
+use Rattle.meaning.specs.Limits.Laws.{depth-is, held-is}
+use Rattle.element.specs.Element.{elementsIn}
 use Rattle.numbers.specs.Numbers.{numbersIn}
 use Rattle.step.specs.Step.{refuseClose}
-use Rattle.step.specs.Step.Laws.{ended-yes, ended-no, none-yes, none-no, at-least, less, past, within, depth-is, held-is, name-other, name-same}
+use Rattle.step.specs.Step.Laws.{ended-yes, ended-no, none-yes, none-no, at-least, less, past, within, name-other, name-same}
 use Rattle.step.proofs.refuse_close.Statement.{statement}
 use Rattle.step.proofs.refuse_close.Tie as tie
 
@@ -58,7 +59,7 @@ returns-4 c = let at-if2 = c .before .before .before in
     let at-get = at-if1 .before in
     let start = at-get .before .before .before in (
       pick-no _ _ _ _ (ended-no _ _ (at-get .get .ensures) (at-if1 .if1 .left)) (pick-no _ _ _ _ (none-no _ _ (at-get2 .get2 .ensures) (at-if2 .if2 .left))
-          (pick-no _ _ _ _ (within _ _ (at-get2 .get2 .ensures) mostOpen (omega (arith, depth-is)))
+          (pick-no _ _ _ _ (within _ _ (at-get2 .get2 .ensures) depthLimit (omega (arith, depth-is)))
           (pick-no _ _ _ _ (name-other (numbersIn (start .args .numbers .now)) (elementsIn (start .args .elements .now)) _ _ _ (at-get2 .get2 .ensures)
           (c .before .get3 .ensures) (c .if4 .taken)) refl))),
       λ e. absurd (omega arith),
@@ -79,10 +80,10 @@ returns-5 c = let at-get3 = c .before .before .before in
     let at-get = at-if1 .before in
     let start = at-get .before .before .before in (
       pick-no _ _ _ _ (ended-no _ _ (at-get .get .ensures) (at-if1 .if1 .left)) (pick-no _ _ _ _ (none-no _ _ (at-get2 .get2 .ensures) (at-if2 .if2 .left))
-          (pick-no _ _ _ _ (within _ _ (at-get2 .get2 .ensures) mostOpen (omega (arith, depth-is)))
+          (pick-no _ _ _ _ (within _ _ (at-get2 .get2 .ensures) depthLimit (omega (arith, depth-is)))
           (pick-yes _ _ _ _ (name-same (numbersIn (start .args .numbers .now)) (elementsIn (start .args .elements .now)) _ _ _ (at-get2 .get2 .ensures)
           (at-get3 .get3 .ensures) (c .before .before .if4 .left))
-          (pick-yes _ _ _ _ (past _ _ (c .before .get4 .ensures) mostHeld (omega (arith, held-is))) refl)))),
+          (pick-yes _ _ _ _ (past _ _ (c .before .get4 .ensures) heldLimit (omega (arith, held-is))) refl)))),
       λ e. absurd (omega arith),
     )
 
@@ -95,10 +96,10 @@ returns-6 c = let at-get3 = c .before .before .before in
     let at-get = at-if1 .before in
     let start = at-get .before .before .before in (
       pick-no _ _ _ _ (ended-no _ _ (at-get .get .ensures) (at-if1 .if1 .left)) (pick-no _ _ _ _ (none-no _ _ (at-get2 .get2 .ensures) (at-if2 .if2 .left))
-          (pick-no _ _ _ _ (within _ _ (at-get2 .get2 .ensures) mostOpen (omega (arith, depth-is)))
+          (pick-no _ _ _ _ (within _ _ (at-get2 .get2 .ensures) depthLimit (omega (arith, depth-is)))
           (pick-yes _ _ _ _ (name-same (numbersIn (start .args .numbers .now)) (elementsIn (start .args .elements .now)) _ _ _ (at-get2 .get2 .ensures)
           (at-get3 .get3 .ensures) (c .before .before .if4 .left))
-          (pick-no _ _ _ _ (within _ _ (c .before .get4 .ensures) mostHeld (omega (arith, held-is))) refl)))),
+          (pick-no _ _ _ _ (within _ _ (c .before .get4 .ensures) heldLimit (omega (arith, held-is))) refl)))),
       λ e. record {
         some = positive _ (λ z. at-if2 .if2 .left (at-get2 .get2 .ensures ∙ z));
         deep = omega (arith, depth-is, at-get2 .get2 .ensures);

@@ -4,8 +4,10 @@ use native.Mathlib.Omega.{arith}
 use mathlib.Core.Path.{refl, sym, _∙_}
 use Rattle.choice.specs.Pick.{pick-yes, pick-no}
 use native.Mathlib.Nat.{lt-of-le-of-lt}
+use Rattle.meaning.specs.Limits.{nodeLimit}
+use Rattle.meaning.specs.Limits.Laws.{depth-is, held-is, node-limit-is}
 use Rattle.step.specs.Step.{refuseOpen}
-use Rattle.step.specs.Step.Laws.{ended-yes, ended-no, none-yes, none-no, at-least, less, past, within, depth-is, held-is, name-other, name-same}
+use Rattle.step.specs.Step.Laws.{ended-yes, ended-no, none-yes, none-no, at-least, less, past, within, name-other, name-same}
 use Rattle.step.proofs.refuse_open.Statement.{statement}
 use Rattle.step.proofs.refuse_open.Tie as tie
 
@@ -38,7 +40,7 @@ unfolding refuseOpen
 returns-3 c = (
   pick-no _ _ _ _ (ended-no _ _ (c .before .before .before .before .before .get .ensures) (c .before .before .before .before .if1 .left))
       (pick-no _ _ _ _ (less _ _ (c .before .before .before .get2 .ensures) _ (omega (arith, depth-is)))
-      (pick-yes _ _ _ _ (at-least _ _ (c .before .get3 .ensures) _ (c .if3 .taken)) refl)),
+      (pick-yes _ _ _ _ (at-least _ _ (c .before .get3 .ensures) nodeLimit (omega (arith, node-limit-is, c .if3 .taken))) refl)),
   λ e. absurd (omega arith),
 )
 
@@ -56,7 +58,7 @@ returns-4 c = let at-get3 = c .before .before .before in
     let at-get = at-if1 .before in (
       pick-no _ _ _ _ (ended-no _ _ (at-get .get .ensures) (at-if1 .if1 .left))
           (pick-no _ _ _ _ (less _ _ (at-get2 .get2 .ensures) _ (omega (arith, depth-is)))
-          (pick-no _ _ _ _ (less _ _ (at-get3 .get3 .ensures) _ (c .before .before .if3 .left))
+          (pick-no _ _ _ _ (less _ _ (at-get3 .get3 .ensures) nodeLimit (omega (arith, node-limit-is, c .before .before .if3 .left)))
           (pick-yes _ _ _ _ (past _ _ (c .before .get4 .ensures) _ (omega (arith, held-is))) refl))),
       λ e. absurd (omega arith),
     )
@@ -69,11 +71,11 @@ returns-5 c = let at-get3 = c .before .before .before in
     let at-get = at-if1 .before in (
       pick-no _ _ _ _ (ended-no _ _ (at-get .get .ensures) (at-if1 .if1 .left))
           (pick-no _ _ _ _ (less _ _ (at-get2 .get2 .ensures) _ (omega (arith, depth-is)))
-          (pick-no _ _ _ _ (less _ _ (at-get3 .get3 .ensures) _ (c .before .before .if3 .left))
+          (pick-no _ _ _ _ (less _ _ (at-get3 .get3 .ensures) nodeLimit (omega (arith, node-limit-is, c .before .before .if3 .left)))
           (pick-no _ _ _ _ (within _ _ (c .before .get4 .ensures) _ (omega (arith, held-is))) refl))),
       λ e. record {
         deep = omega (arith, depth-is, at-get2 .get2 .ensures);
-        few = omega (arith, at-get3 .get3 .ensures);
+        few = omega (arith, node-limit-is, at-get3 .get3 .ensures);
         held = omega (arith, held-is, c .before .get4 .ensures);
       },
     )

@@ -22,25 +22,27 @@ use lib.Seq.{take-suc, take-suc-set, take-all, take-at, length-take-le}
 use borrow.Author.Tests.{eq-eqb, ne-eqb, le-leb, lt-leb, lt-ltb, le-ltb, leb-false}
 use Rattle.choice.specs.Pick.{pick, pick-yes, pick-no, pick-true, pick-false}
 use Rattle.meaning.specs.Record.{eventOf}
+use Rattle.meaning.specs.Refusals.{tooManyHeld}
+use Rattle.meaning.specs.Limits.{depthLimit, heldLimit, outputNeeded, elementsNeeded}
 use Rattle.records.specs.declared.Event.{Event}
 use Rattle.records.specs.Read.{shown}
 use Rattle.sets.specs.Set.{meet, without}
 use Rattle.plan.specs.Plan.{Plan, named, lastGiven}
 use Rattle.engine.specs.Quick.{Frame, Rise, rise, framesAfter, sureAt, possAt, Opening, opening, openingFrom, judged, over, wentIf, cut}
 use Rattle.engine.specs.Quick.Snoc.{framesAfter-length}
-use Rattle.element.specs.Element.{mostOpen, elementsRoom, Elements, elementsIn, frameAt}
+use Rattle.element.specs.Element.{Elements, elementsIn, frameAt}
 use Rattle.element.specs.Element.Laws.{frames-length}
 use Rattle.element.specs.Element.Laws as element
 use Rattle.elements.specs.Elements as elements
 use Rattle.elements.specs.Elements.{Risen, pushedIn}
 use Rattle.elements.specs.Elements.Laws.{sure-front, possible-front}
-use Rattle.node.specs.Node.{mostHeld, Queue, queueIn}
+use Rattle.node.specs.Node.{Queue, queueIn}
 use Rattle.node.specs.Node.Laws.{nodes-length}
 use Rattle.nodes.specs.declared.Going.{Going}
 use Rattle.nodes.specs.Nodes.{levelOf, Moved, movedFrom, Handed, handedOut, Joined, joined}
 use Rattle.numbers.specs.Numbers.{Numbers, numbersOf}
 use Rattle.step.specs.declared.Stepped.{Stepped}
-use Rattle.step.specs.Step.{outputNeeded, refuseOpen, refuseClose, usedIn, goingOf, Opened, openedBy, openingIn, allGo, noPlace}
+use Rattle.step.specs.Step.{refuseOpen, refuseClose, usedIn, goingOf, Opened, openedBy, openingIn, allGo, noPlace}
 use Rattle.step.specs.Step.{overIn, After, after, refusedWith}
 use Rattle.step.specs.Step.{openNumbers, openWith, openBy, openTaken, onOpen}
 use Rattle.step.specs.Step.{closeNumbers, movedOutFrom, movedOut, closeWith, closeOut, closeBy, closeTaken, onClose, step}
@@ -60,7 +62,7 @@ picked true joins b = refl
 picked false true b = refl
 picked false false b = refl
 
-module _ (P : Plan) (x depth held : ℕ) (bs ns : List ℕ) (deep : depth < mostOpen) (few : held ≤ mostHeld) where
+module _ (P : Plan) (x depth held : ℕ) (bs ns : List ℕ) (deep : depth < depthLimit) (few : held ≤ heldLimit) where
   abbrev E : Elements
   E = elementsIn bs
 
@@ -147,12 +149,12 @@ module _ (P : Plan) (x depth held : ℕ) (bs ns : List ℕ) (deep : depth < most
   no-joins true joins b e = refl
   no-joins false joins b e = ap (λ j. j && b) e
 
-  pub over-not : held < mostHeld → false ≡ overIn P x depth held E N
+  pub over-not : held < heldLimit → false ≡ overIn P x depth held E N
   unfolding overIn over usedIn
   over-not h =
       sym
       (over-parts (opening P x (usedIn depth held E N) .all) (opening P x (usedIn depth held E N) .joins) _
-      (lt-leb mostHeld (length (take held (N .list)) - opening P x (usedIn depth held E N) .went) (omega (arith, ws-length))))
+      (lt-leb heldLimit (length (take held (N .list)) - opening P x (usedIn depth held E N) .went) (omega (arith, ws-length))))
 
   pub over-dead :
       (p around : ℕ) → p ≡ named P x → around ≡ possAt P (E .list) depth → lastGiven p around ≡ false → false ≡ overIn P x depth held E N
@@ -160,7 +162,7 @@ module _ (P : Plan) (x depth held : ℕ) (bs ns : List ℕ) (deep : depth < most
   over-dead p around ep ea dead =
       sym
       (no-joins (opening P x (usedIn depth held E N) .all) (opening P x (usedIn depth held E N) .joins)
-      (leb mostHeld (length (take held (N .list)) - opening P x (usedIn depth held E N) .went))
+      (leb heldLimit (length (take held (N .list)) - opening P x (usedIn depth held E N) .went))
       (ap (λ (o : Opening). o .joins) opening-is
       ∙ sym
       (ap₂ lastGiven ep
@@ -177,23 +179,23 @@ module _ (P : Plan) (x depth held : ℕ) (bs ns : List ℕ) (deep : depth < most
       let g : go ≡ goingOf o = ap (λ (y : Opened). y .going) e in
       er
       ∙ ap (λ (y : Going). noPlace (y .all) (y .joins) (y .went) held) g
-      ∙ picked (o .all) (o .joins) (leb mostHeld (held - o .went))
-      ∙ ap (λ n. not (o .all) && (o .joins && leb mostHeld (n - o .went))) (sym ws-length)
+      ∙ picked (o .all) (o .joins) (leb heldLimit (held - o .went))
+      ∙ ap (λ n. not (o .all) && (o .joins && leb heldLimit (n - o .went))) (sym ws-length)
 
   -- where none is wanting
   pub has-place :
       (go : Going) (E₁ : Elements) (b : Bool) → _≡_ {A = Opened} (record { going = go; elements = E₁ }) (openingIn P x depth held E N) →
-      b ≡ overIn P x depth held E N → b ≡ false → go .all ≡ false → go .joins ≡ true → held < mostHeld + go .went
+      b ≡ overIn P x depth held E N → b ≡ false → go .all ≡ false → go .joins ≡ true → held < heldLimit + go .went
   unfolding noPlace
   has-place go E₁ b e eb f na j =
-      let none : leb mostHeld (held - go .went) ≡ false =
-      sym (pick-false (go .all) false _ na ∙ pick-true (go .joins) (leb mostHeld (held - go .went)) false j)
+      let none : leb heldLimit (held - go .went) ≡ false =
+      sym (pick-false (go .all) false _ na ∙ pick-true (go .joins) (leb heldLimit (held - go .went)) false j)
       ∙ over-told go E₁ (noPlace (go .all) (go .joins) (go .went) held) e refl ∙ sym eb ∙ f in
-      omega (arith, leb-false mostHeld (held - go .went) none)
+      omega (arith, leb-false heldLimit (held - go .went) none)
 
 -- told on a copy
 pub over-copied :
-    (P : Plan) (x depth held : ℕ) (bs trial ns : List ℕ) → depth < mostOpen → held ≤ mostHeld → trial ≡ bs → (go : Going) (E₁ : Elements) (r : Bool) →
+    (P : Plan) (x depth held : ℕ) (bs trial ns : List ℕ) → depth < depthLimit → held ≤ heldLimit → trial ≡ bs → (go : Going) (E₁ : Elements) (r : Bool) →
     _≡_ {A = Opened} (record { going = go; elements = E₁ }) (openingIn P x depth held (elementsIn trial) (queueIn ns)) →
     r ≡ noPlace (go .all) (go .joins) (go .went) held → r ≡ overIn P x depth held (elementsIn bs) (queueIn ns)
 over-copied P x depth held bs trial ns deep few c go E₁ r e er =
@@ -225,22 +227,6 @@ module _ (read v : ℕ) (e : read ≡ v) where
 
   pub within : (n : ℕ) → read ≤ n → ltb n v ≡ false
   within n h = le-ltb n v (omega arith)
-
-pub room-is : elementsRoom ≡ 16384
-unfolding mostOpen
-room-is = element.room-is
-
-pub output-is : outputNeeded ≡ 4 * mostHeld + 4
-unfolding outputNeeded
-output-is = refl
-
-pub depth-is : mostOpen ≡ 256
-unfolding mostOpen
-depth-is = refl
-
-pub held-is : mostHeld ≡ 1024
-unfolding mostHeld
-held-is = refl
 
 -- the innermost name
 
@@ -284,7 +270,7 @@ module _ (P : Plan) (x : ℕ) (n : Numbers) (E : Elements) (N : Queue) (out : Li
   open-refused r e f = pick-no _ _ _ _ (ne-eqb _ _ (λ z. f (e ∙ z))) (ap (λ k. refusedWith k n E N out) e)
 
   module _ (r depth held : ℕ) (er : r ≡ refuseOpen n) (z : r ≡ 0) (ed : depth ≡ n .depth) (eh : held ≡ n .held) where
-    pub open-full : (b : Bool) → b ≡ overIn P x depth held E N → b ≡ true → refusedWith 7 n E N out ≡ onOpen P x n E N out
+    pub open-full : (b : Bool) → b ≡ overIn P x depth held E N → b ≡ true → refusedWith tooManyHeld n E N out ≡ onOpen P x n E N out
     unfolding onOpen
     open-full b e t =
         pick-yes _ _ _ _ (eq-eqb _ _ (sym er ∙ z)) (pick-yes _ _ _ _ (sym (ap₂ (λ d h. overIn P x d h E N) ed eh) ∙ sym e ∙ t) refl)

@@ -33,7 +33,7 @@ pub record Whole {A : Type 0} (S : Shape A) : Type 0 where
   pub read : (r : ℕ → ℕ) (g : ℕ) → g < S .fields → S .field g (S .make r) ≡ r g
 
 -- place g of record i is one of all
-in-room : (w n i g : ℕ) → i < n → g < w → w * i + g < w * n
+pub in-room : (w n i g : ℕ) → i < n → g < w → w * i + g < w * n
 in-room w zero i g hi hg = absurd (omega arith)
 in-room w (suc n) zero g hi hg = omega (arith, mul-zero w, mul-suc w n)
 in-room w (suc n) (suc i) g hi hg = omega (arith, mul-suc w i, mul-suc w n, in-room w n i g (omega arith) hg)
@@ -50,7 +50,7 @@ module _ {A : Type 0} (S : Shape A) (whole : Whole S) where
   unfolding recordsIn
   list-length bs = rows-length (S .count) (λ i. S .make (field w (words bs) i))
 
-  at-is : (ws : List ℕ) (i : ℕ) → i < S .count → at S (recordsOf S ws) i ≡ S .make (field w ws i)
+  pub at-is : (ws : List ℕ) (i : ℕ) → i < S .count → at S (recordsOf S ws) i ≡ S .make (field w ws i)
   at-is ws i h = rows-at (S .count) (λ k. S .make (field w ws k)) (blank S) i h
 
   get-field : (ws : List ℕ) (i g : ℕ) → i < S .count → g < S .fields → getD ws (w * i + g) 0 ≡ S .field g (at S (recordsOf S ws) i)

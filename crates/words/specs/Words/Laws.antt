@@ -17,7 +17,7 @@ use lib.ListN.{length, getD, set}
 use Rattle.choice.specs.Count.{add-two, add-three}
 use Rattle.words.specs.Words.{word, words, bytesOf, Bytes}
 
-word-bytes : (v : ℕ) → v < 4294967296 → word (v % 256) (v / 256 % 256) (v / 256 / 256 % 256) (v / 256 / 256 / 256 % 256) ≡ v
+pub word-bytes : (v : ℕ) → v < 4294967296 → word (v % 256) (v / 256 % 256) (v / 256 / 256 % 256) (v / 256 / 256 / 256 % 256) ≡ v
 word-bytes v h = omega arith
 
 -- j is the first byte of place i

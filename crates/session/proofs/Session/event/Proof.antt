@@ -3,8 +3,8 @@ use borrow.Author.Needs.{needs}
 use native.Mathlib.Omega.{arith}
 use mathlib.Core.Path.{sym, _∙_}
 use lib.Seq.{length-take-le}
-use Rattle.step.specs.Step.Laws.{output-is, held-is}
-use Rattle.session.specs.Begin.Laws.{elements-room, nodes-room, short-elements, short-nodes, room-enough}
+use Rattle.meaning.specs.Answer.Laws.{few-elements, few-nodes, not-small}
+use Rattle.meaning.specs.Limits.Laws.{held-is, output-is, elements-is, nodes-is}
 use Rattle.session.specs.Event.Laws.{event-short, event-small, event-parts}
 use Rattle.session.proofs.Session.event.Statement.{statement}
 use Rattle.session.proofs.Session.event.Tie as tie
@@ -16,12 +16,12 @@ returns c = let args = c .before .before .before .before .before .args in
 returns-2 : tie.Need-returns-2
 returns-2 c = let args = c .before .before .before .before .before .before .args in
     event-small (args .self) (args .bytes .now) (args .elements .now) (args .nodes .now) (args .out .now) (omega (arith, output-is, held-is))
-    (short-elements _ _ (omega (arith, elements-room)))
+    (few-elements _ _ (omega (arith, elements-is)))
 
 returns-3 : tie.Need-returns-3
 returns-3 c = let args = c .before .before .before .before .before .before .before .args in
     event-small (args .self) (args .bytes .now) (args .elements .now) (args .nodes .now) (args .out .now) (omega (arith, output-is, held-is))
-    (short-nodes _ _ (omega (arith, elements-room)) (omega (arith, nodes-room)))
+    (few-nodes _ _ (omega (arith, elements-is)) (omega (arith, nodes-is)))
 
 slice-relend-prefix-within : tie.Need-slice-relend-prefix-within
 slice-relend-prefix-within c = search needs
@@ -39,8 +39,8 @@ slice-aggregate-within-2 c = let at-if3 = c .before .before in
 
 within-requires : tie.Need-within-requires
 within-requires c κs = let args = c .before .before .before .before .before .before .before .before .before .before .args in (
-  length-take-le 16384 (args .elements .now) (c .before .before .before .before .if2 .left) ∙ sym elements-room,
-  (length-take-le 32768 (args .nodes .now) (c .before .before .before .if3 .left) ∙ sym nodes-room, omega (arith, output-is, held-is)),
+  length-take-le 16384 (args .elements .now) (c .before .before .before .before .if2 .left) ∙ sym elements-is,
+  (length-take-le 32768 (args .nodes .now) (c .before .before .before .if3 .left) ∙ sym nodes-is, omega (arith, output-is, held-is)),
 )
 
 same-length : tie.Need-same-length
@@ -55,8 +55,8 @@ same-length-3 c = search needs
 returns-4 : tie.Need-returns-4
 returns-4 c = let at-within = c .before .before .before .before .before .before in
     let args = at-within .before .before .before .before .before .before .before .before .before .before .before .args in
-    event-parts (args .self) (args .bytes .now) (args .elements .now) (args .nodes .now) (args .out .now) _ _ _ _ _ 16384 32768 elements-room nodes-room
-    (omega (arith, output-is, held-is)) (room-enough _ _ (omega (arith, elements-room)) (omega (arith, nodes-room))) (at-within .within .ensures)
+    event-parts (args .self) (args .bytes .now) (args .elements .now) (args .nodes .now) (args .out .now) _ _ _ _ _ 16384 32768 elements-is nodes-is
+    (omega (arith, output-is, held-is)) (not-small _ _ (omega (arith, elements-is)) (omega (arith, nodes-is))) (at-within .within .ensures)
 
 pub event-spec : {M : Type 1} → statement M
 event-spec =

@@ -3,8 +3,8 @@ use borrow.Author.Needs.{needs}
 use native.Mathlib.Omega.{arith}
 use mathlib.Core.Path.{sym, _∙_}
 use lib.Seq.{length-take-le}
-use Rattle.step.specs.Step.Laws.{output-is, held-is}
-use Rattle.session.specs.Begin.Laws.{elements-room, nodes-room, short-elements, short-nodes}
+use Rattle.meaning.specs.Answer.Laws.{few-elements, few-nodes}
+use Rattle.meaning.specs.Limits.Laws.{held-is, output-is, elements-is, nodes-is}
 use Rattle.session.specs.Run.Laws.{run-few, run-short, run-small, run-parts}
 use Rattle.session.proofs.Session.run.Statement.{statement}
 use Rattle.session.proofs.Session.run.Tie as tie
@@ -31,7 +31,7 @@ stays-requires-3 c κs = search needs
 returns-3 : tie.Need-returns-3
 returns-3 c = let args = c .before .before .before .before .before .before .before .before .args in
     run-small (args .self) (args .events .now) (args .elements .now) (args .nodes .now) (args .out .now) _ (c .stays3 .ensures)
-    (c .before .before .before .if1 .left) (omega (arith, output-is, held-is)) (short-elements _ _ (omega (arith, elements-room)))
+    (c .before .before .before .if1 .left) (omega (arith, output-is, held-is)) (few-elements _ _ (omega (arith, elements-is)))
 
 stays-requires-4 : tie.Need-stays-requires-4
 stays-requires-4 c κs = search needs
@@ -40,7 +40,7 @@ returns-4 : tie.Need-returns-4
 returns-4 c = let args = c .before .before .before .before .before .before .before .before .before .args in
     run-small (args .self) (args .events .now) (args .elements .now) (args .nodes .now) (args .out .now) _ (c .stays4 .ensures)
     (c .before .before .before .before .if1 .left) (omega (arith, output-is, held-is))
-    (short-nodes _ _ (omega (arith, elements-room)) (omega (arith, nodes-room)))
+    (few-nodes _ _ (omega (arith, elements-is)) (omega (arith, nodes-is)))
 
 slice-relend-prefix-run-within : tie.Need-slice-relend-prefix-run-within
 slice-relend-prefix-run-within c = search needs
@@ -59,8 +59,8 @@ slice-aggregate-run-within-2 c = let at-if4 = c .before .before in
 run-within-requires : tie.Need-run-within-requires
 run-within-requires c κs = let at-if4 = c .before .before .before in
     let args = at-if4 .before .before .before .before .before .before .before .before .args in (
-      length-take-le 16384 (args .elements .now) (at-if4 .before .if3 .left) ∙ sym elements-room,
-      length-take-le 32768 (args .nodes .now) (at-if4 .if4 .left) ∙ sym nodes-room,
+      length-take-le 16384 (args .elements .now) (at-if4 .before .if3 .left) ∙ sym elements-is,
+      length-take-le 32768 (args .nodes .now) (at-if4 .if4 .left) ∙ sym nodes-is,
     )
 
 same-length : tie.Need-same-length
@@ -76,7 +76,7 @@ returns-5 : tie.Need-returns-5
 returns-5 c = let at-run = c .before .before .before .before .before .before in
     let at-if4 = at-run .before .before .before .before in
     let args = at-if4 .before .before .before .before .before .before .before .before .args in (
-      run-parts (args .self) (args .events .now) (args .elements .now) (args .nodes .now) (args .out .now) 16384 32768 elements-room nodes-room
+      run-parts (args .self) (args .events .now) (args .elements .now) (args .nodes .now) (args .out .now) 16384 32768 elements-is nodes-is
           (at-if4 .before .if3 .left) (at-if4 .if4 .left) _ _ _ _ (at-run .run-within .ensures .0),
       at-run .run-within .ensures .1,
     )
