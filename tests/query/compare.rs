@@ -1,7 +1,7 @@
 // Compares the proved query check with the plain one of plain.rs. Usage: compare PROGRAM [SEED]
 // PROGRAM is answers.c with the proved check.
 mod plain;
-use plain::Answer;
+use plain::{Answer, MOST_STEPS};
 use std::collections::BTreeMap;
 use std::io::Write;
 use std::process::{Command, Stdio};
@@ -86,7 +86,7 @@ fn admitted(random: &mut Random, steps: usize) -> Vec<u8> {
 
 // An admitted query with a few bytes changed, most of them to small numbers: the rules are near there.
 fn changed(random: &mut Random) -> Vec<u8> {
-    let steps = 1 + random.below(33);
+    let steps = 1 + random.below(MOST_STEPS + 1);
     let mut query = admitted(random, steps);
     for _ in 0..random.below(4) {
         let at = random.below(query.len());
@@ -152,15 +152,16 @@ fn main() {
         failed: 0,
     };
 
-    for bytes in 0..=300 {
-        let whole = admitted(&mut random, 38);
+    let longest = 8 * MOST_STEPS + 44;
+    for bytes in 0..=longest {
+        let whole = admitted(&mut random, MOST_STEPS + 6);
         tally.hold(&whole[..bytes]);
         tally.hold(&vec![0; bytes]);
         tally.hold(&(0..bytes).map(|_| random.next() as u8).collect::<Vec<u8>>());
     }
-    tally.tell("every length from 0 to 300, an admitted query cut there, zeros, and random bytes");
+    tally.tell(&format!("every length from 0 to {longest}, an admitted query cut there, zeros, and random bytes"));
 
-    for steps in [1, 2, 3, 5, 8, 32] {
+    for steps in [1, 2, 3, 5, 8, MOST_STEPS] {
         let whole = admitted(&mut random, steps);
         for at in 0..whole.len() {
             for value in 0..=255 {
@@ -170,7 +171,7 @@ fn main() {
             }
         }
     }
-    tally.tell("every byte of admitted queries of 1, 2, 3, 5, 8 and 32 steps set to every value");
+    tally.tell(&format!("every byte of admitted queries of 1, 2, 3, 5, 8 and {MOST_STEPS} steps set to every value"));
 
     for _ in 0..20000 {
         tally.hold(&changed(&mut random));

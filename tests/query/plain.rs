@@ -1,6 +1,9 @@
 // The query rules of document 01 once more, written plainly and by another road than the proved check: the bytes are first
 // cut into steps, and each step is then held to the document's sentences, the nearest main-path step looked for backwards.
 
+/// "at most 32 steps"
+pub const MOST_STEPS: usize = 32;
+
 pub struct Step {
     pub axis: u8,
     pub role: u8,
@@ -45,7 +48,7 @@ fn breaks(steps: &[Step], number: usize) -> bool {
 }
 
 pub fn answer(query: &[u8]) -> Answer {
-    if query.is_empty() || query.len() % 8 != 0 || query.len() > 256 {
+    if query.is_empty() || query.len() % 8 != 0 || query.len() > 8 * MOST_STEPS {
         return Answer::Nine;
     }
     let steps = steps_of(query);

@@ -2,6 +2,8 @@
 use std::hint::black_box;
 use std::time::Instant;
 
+const MOST_STEPS: u8 = 32;
+
 extern "C" {
     fn compassflare_check(query: *const u8, bytes: usize) -> u32;
 }
@@ -46,11 +48,11 @@ fn nanoseconds(query: &[u8]) -> f64 {
 }
 
 fn main() {
-    for (what, query) in [
-        ("1 step", main_path(1)),
-        ("32 steps, all on the main path", main_path(32)),
-        ("32 steps, half of them predicates", mixed(32)),
+    for (steps, what, query) in [
+        (1, "all on the main path", main_path(1)),
+        (MOST_STEPS, "all on the main path", main_path(MOST_STEPS)),
+        (MOST_STEPS, "half of them predicates", mixed(MOST_STEPS)),
     ] {
-        println!("{what}: {:.0} ns", nanoseconds(&query));
+        println!("{steps} steps, {what}: {:.0} ns", nanoseconds(&query));
     }
 }

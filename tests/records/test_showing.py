@@ -3,7 +3,7 @@ import hashlib
 import os
 import unittest
 
-from folder import BOOK, CELLS, Folder, HERE
+from folder import BOOK, CELLS, Folder, HERE, MOST_STEPS
 
 
 class Showing(Folder):
@@ -48,7 +48,7 @@ class Showing(Folder):
 
     def test_refused_queries(self):
         for data, said in [(b"", "refused 9: 0 bytes"), (bytes(7), "refused 9: 7 bytes"),
-                           (bytes(264), "refused 9: 264 bytes"),
+                           (bytes(8 * (MOST_STEPS + 1)), f"refused 9: {8 * (MOST_STEPS + 1)} bytes"),
                            (bytes([3, 1, 0, 0, 0, 1, 0, 0]), "refused 10 at 1: axis 3"),
                            (bytes([1, 0, 0, 0, 0, 1, 0, 0]), "refused 10 at 1: step 1 must be on the main path"),
                            (bytes([1, 1, 0, 0, 0, 1, 0, 0, 1, 0, 2, 0, 0, 1, 0, 0]), "10 at 2: a predicate step"),

@@ -180,7 +180,7 @@ openingFrom P n s r =
 unfoldable pub opening : Plan → ℕ → State → Opening
 opening P n s = openingFrom P n s (rise P (without (meet (named P n) (P .plain)) (P .main)) (s .frames))
 
--- "an open after which more than 128 nodes would be held"
+-- "an open after which more than 1,024 nodes would be held"
 unfoldable pub over : ℕ → State → Opening → Bool
 over limit s o = not (o .all) && (o .joins && leb limit (length (s .queue) - o .went))
 

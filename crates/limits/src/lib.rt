@@ -1,4 +1,4 @@
-// The limits of a session and the refusal numbers, each in this one place of the code; crate meaning, Limits and Answer, has them for the definitions.
+// The limits of a session and the refusal numbers, each in this one place of the code; crate meaning, Limits and Refusals, has them for the definitions.
 
 // "A session holds at most 256 open elements and at most 1,024 held nodes"
 pub const DEPTH: usize = 256;
@@ -40,5 +40,5 @@ pub const TOO_MANY_HELD: u8 = 7;
 // "no document element yet, or it is still open"
 pub const UNFINISHED: u8 = 8;
 
-// "lent room too small"
+// "lent room under 16,384 bytes for the open elements or under 32,768 bytes for the waiting nodes"
 pub const SHORT_ROOM: u8 = 15;

@@ -5,7 +5,6 @@
 --   named P n          the steps whose name test an element named n passes
 --   meets P pass K     the steps that an element meets whose name passes `pass` and in whose content K is met
 --   lift P M K         what an element meeting M, with K met in its content, amounts to for those above it: of M the predicate steps
---   liftAll P M K      the same with the main-path steps, as the old engine has it
 --   turn P M r         the main-path steps whose turn it is in the content of an element that meets M, r being whose turn it is around it
 --   lastGiven M r      the last main-path step is given to an element that meets M where r is whose turn it is
 --   up P M need        what a node needs around an element that meets M; a need of 0 stands for the element itself
@@ -54,9 +53,6 @@ meets P pass K = meet (maskOf (length (P .tests)) (λ t. covers K (getD (P .hung
 -- only predicate steps rise: what is below is asked for what hangs on a step, and only they hang on one (Plan.Laws, meets-predicates)
 unfoldable pub lift : Plan → ℕ → ℕ → ℕ
 lift P M K = join (without M (P .main)) (meet K (P .deep))
-
-unfoldable pub liftAll : Plan → ℕ → ℕ → ℕ
-liftAll P M K = join M (meet K (P .deep))
 
 unfoldable pub turn : Plan → ℕ → ℕ → ℕ
 turn P M r = join (meet M r / 2) (meet r (P .deep))

@@ -6,7 +6,7 @@
 --   slots l             the first 32 of l, 0 past its end
 --   packedOver p ws     the numbers ws with those of the plan p written over them;  packed p: over zeros
 --
--- Assumes nothing. NOT here: that the plan of a query is read as it was packed (Kept.Laws).
+-- Assumes nothing. NOT here: that the plan of a query is read as it was packed (Kept.Packed, Kept.Planned).
 pub mod Laws
 pub mod Packed
 pub mod Planned

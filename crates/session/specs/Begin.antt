@@ -41,7 +41,7 @@ pub record Begun : Type 0 where
   pub answer : Answer
   pub session : Session
 
--- "15 comes before 9 and 10"
+-- "15 comes directly after 1 and before all others: at the start before 9 and 10"
 unfoldable pub answerOf : List ℕ → List ℕ → List ℕ → Answer
 answerOf q E N = pick (tooSmall (length E) (length N)) (refused shortRoom) (answerTo q)
 

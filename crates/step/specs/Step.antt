@@ -16,7 +16,7 @@
 --   step P e n E N out        the event e
 --
 -- Numbers that no calls lead to may be past every limit: an open or a close is then refused too, so that no record is left.
--- Assumes nothing. NOT here: that the engine's state is what the rooms then hold (crate right).
+-- Assumes nothing. NOT here: that this is the engine's event on the state that the rooms hold (crate right).
 pub mod Laws
 pub mod Left
 use Prim.Native.Nat.{ℕ, _+_, _-_, _*_, _%_, _^_, _≤_, _<_}

@@ -10,7 +10,7 @@ pub struct Room {
 }
 
 impl Room {
-    /// "its record's size times the limit it serves"
+    /// "that size times the limit it serves"
     pub const LEAST: Room = Room { elements: ELEMENT_BYTES * MOST_OPEN, nodes: NODE_BYTES * MOST_HELD };
 
     /// "Buffers too small for these limits get refusal 15"

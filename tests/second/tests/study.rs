@@ -10,8 +10,11 @@ use second::records::{record, Event};
 /// The numbers of document 01, once more by themselves.
 const OPEN: usize = 256;
 const HELD: usize = 1_024;
+const STEPS: usize = 32;
 const ROOM: Room = Room { elements: 16_384, nodes: 32_768 };
 const ENOUGH: Lent = Lent { buffer: 4_100, room: ROOM };
+/// One byte less than an event needs.
+const SHORT: Lent = Lent { buffer: ENOUGH.buffer - 1, ..ENOUGH };
 
 const NAMES: [&str; 11] = ["a", "b", "c", "d", "r", "book", "section", "table", "cell", "position", "author"];
 
@@ -209,15 +212,16 @@ fn many(d: usize) -> String {
 
 #[test]
 fn r1_all_held_nodes_and_the_new_one_go_at_once() {
-    let all: Vec<usize> = (2..=1_026).collect();
-    assert_eq!(all.len(), 1_025);
-    assert_eq!(listed(&waiting_for_c(), &many(HELD)), [(2_050, all)]);
+    let all: Vec<usize> = (2..=HELD + 2).collect();
+    assert_eq!(all.len(), HELD + 1);
+    assert_eq!(listed(&waiting_for_c(), &many(HELD)), [(2 * HELD + 2, all)]);
 }
 
 #[test]
 fn r2_one_held_node_more_is_refused() {
+    let said = format!("refused 7 at {}\n", 2 * HELD + 2);
     for form in [Form::Literal, Form::Moments] {
-        assert_eq!(program(form, &write(&waiting_for_c()), &bytes(&events(&many(HELD + 1)))), "refused 7 at 2050\n");
+        assert_eq!(program(form, &write(&waiting_for_c()), &bytes(&events(&many(HELD + 1)))), said);
     }
 }
 
@@ -227,29 +231,29 @@ fn r3_limits_of_depth_query_and_buffer() {
     let nest = bytes(&[Event::Open(r); OPEN + 1]);
     for form in [Form::Literal, Form::Moments] {
         let query = write(&[main_step(Child, 0, "d")]);
-        assert_eq!(program(form, &query, &nest), "refused 5 at 257\n");
-        assert_eq!(program(form, &query, &nest[..OPEN * 8]), "refused 8 at 256\n");
+        assert_eq!(program(form, &query, &nest), format!("refused 5 at {}\n", OPEN + 1));
+        assert_eq!(program(form, &query, &nest[..OPEN * 8]), format!("refused 8 at {OPEN}\n"));
     }
     let steps = |n: usize| write(&(0..n).map(|s| main_step(Child, s, "r")).collect::<Vec<_>>());
-    assert!(Query::read(&steps(32)).is_ok());
-    assert_eq!(Query::read(&steps(33)), Err(Refused::Length));
-    let mut session = begin(&steps(32));
-    assert_eq!(session.event(&record(Event::Open(r)), Lent { buffer: 4_099, room: ROOM }), Answer::Refused(1));
+    assert!(Query::read(&steps(STEPS)).is_ok());
+    assert_eq!(Query::read(&steps(STEPS + 1)), Err(Refused::Length));
+    let mut session = begin(&steps(STEPS));
+    assert_eq!(session.event(&record(Event::Open(r)), SHORT), Answer::Refused(1));
     assert_eq!(session.tree().opened(), 0);
     assert_eq!(session.event(&record(Event::Open(r)), ENOUGH), Answer::Taken(vec![]));
 }
 
 /// Room that is too small, by one byte or by all.
 const TOO_SMALL: [Room; 4] = [
-    Room { elements: 16_383, ..ROOM },
-    Room { nodes: 32_767, ..ROOM },
+    Room { elements: ROOM.elements - 1, ..ROOM },
+    Room { nodes: ROOM.nodes - 1, ..ROOM },
     Room { elements: 0, ..ROOM },
     Room { elements: 0, nodes: 0 },
 ];
 
 #[test]
 fn room_that_is_too_small_gets_15() {
-    let [good, long, bad] = [write(&[main_step(Child, 0, "r")]), vec![0; 264], vec![0; 8]];
+    let [good, long, bad] = [write(&[main_step(Child, 0, "r")]), vec![0; 8 * (STEPS + 1)], vec![0; 8]];
     let mut session = begin(&good);
     let [opens, closes] = [Event::Open(number("r")), Event::Close(number("r"))].map(record);
     for room in TOO_SMALL {
@@ -258,7 +262,7 @@ fn room_that_is_too_small_gets_15() {
             assert_eq!(Session::begin(query, room).err(), Some(NotBegun::Room));
         }
         // At an event after 1 and before all others; and it stops nothing.
-        assert_eq!(session.event(&opens, Lent { buffer: 4_099, room }), Answer::Refused(1));
+        assert_eq!(session.event(&opens, Lent { room, ..SHORT }), Answer::Refused(1));
         for record in [&opens[..], &closes, &opens[..7], &[]] {
             assert_eq!(session.event(record, Lent { room, ..ENOUGH }), Answer::Refused(15));
         }
@@ -266,7 +270,8 @@ fn room_that_is_too_small_gets_15() {
     }
     assert_eq!(Session::begin(&long, ROOM).err(), Some(NotBegun::Query(Refused::Length)));
     assert_eq!(Session::begin(&bad, ROOM).err(), Some(NotBegun::Query(Refused::Step(1))));
-    let more = Lent { buffer: 5_000, room: Room { elements: 16_385, nodes: 40_000 } };
+    let more =
+        Lent { buffer: ENOUGH.buffer + 900, room: Room { elements: ROOM.elements + 1, nodes: ROOM.nodes + 7_232 } };
     assert_eq!(session.event(&opens, more), Answer::Taken(vec![1]));
     assert_eq!(offer(&mut session, &closes), Answer::Taken(vec![]));
     assert_eq!(session.event(&closes, Lent { room: TOO_SMALL[0], ..ENOUGH }), Answer::Refused(15));
@@ -279,7 +284,7 @@ fn a_file_says_what_is_lent() {
     let stream = bytes(&events("r(d)"));
     let small = Lent { room: TOO_SMALL[1], ..ENOUGH };
     let lent = |calls: &[Lent]| calls.iter().flat_map(|call| lent::record(*call)).collect::<Vec<u8>>();
-    let some = lent(&[Lent { buffer: 0, ..ENOUGH }, small, Lent { buffer: 4_099, ..small }, small]);
+    let some = lent(&[Lent { buffer: 0, ..ENOUGH }, small, Lent { buffer: SHORT.buffer, ..small }, small]);
     for form in [Form::Literal, Form::Moments] {
         let text = trace(form, &query, &stream, Lending(&some));
         let lines = ["1 refused 15, held 0", "2 refused 1, held 0", "3 refused 15, held 0", "4 refused 4, held 0"];

@@ -109,7 +109,7 @@ module _ (q : Query) (a : T (admits q)) (y : Node) (d : Doc) where
       ∙ same-state frames-is queue-is (sym (count-opened y d))
       (handed-on q d (opened y d) _ (outAfter (o .all) (s .queue) (newcomer s) (o .went)) quick-open-out out-is) (finished-open y d)
 
--- "an open after which more than 128 nodes would be held"
+-- "an open after which more than 1,024 nodes would be held"
 
 module _ {A : Type 0} (limit : ℕ) (ws : List A) (w : A) (went : ℕ) (h : length ws ≤ limit) where
   over-if : (all joins : Bool) → (not all && (joins && leb limit (length ws - went))) ≡ ltb limit (length (queueAfter all joins ws w went))

@@ -1,7 +1,9 @@
--- A number read from what is kept of a query, and a plan packed and read again.
+-- A number read from what is kept of a query, and what the writes of `lay` and `pack` come to together.
 --
 --   steps-is, size-is, name-is, hung-is      a number read is a set of steps, how many steps there are, a name test, or what hangs on a step
---   kept-size           at most 32 steps are kept
+--   kept-size           at most 32 steps are kept;  room-is: how many bytes they take
+--   written-none, written-all, written-as, five-written      numbers written one after the other
+--   lay-parts, pack-is  all writes of `lay` and `pack`
 --
 -- Assumes nothing.
 use Prim.Native.Nat.{ℕ, zero, suc, _+_, _-_, _*_, _≤_, _<_, min}
