@@ -5,8 +5,8 @@ use mathlib.Core.Path.{_≡_}
 use lib.ListN.{length}
 use borrow.Author.Needs.{needs}
 use borrow.Author.Tests.{ltb-true}
-use Rattle.trace16.proofs.offer_all.Statement.{statement}
-use Rattle.trace16.proofs.offer_all.Tie as tie
+use Rattle.trace.proofs.offer_all.Statement.{statement}
+use Rattle.trace.proofs.offer_all.Tie as tie
 
 abbrev Inv-loop : tie.InvT-loop
 Inv-loop fd elements₀ nodes₀ out₀ offered₀ number₀ elements nodes out offered number =

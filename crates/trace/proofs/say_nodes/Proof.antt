@@ -1,8 +1,8 @@
 -- `trace::say_nodes` is safe and ends. Assumes nothing.
 use Prim.Native.Nat.{_-_, _≤_}
 use borrow.Author.Needs.{needs}
-use Rattle.trace16.proofs.say_nodes.Statement.{statement}
-use Rattle.trace16.proofs.say_nodes.Tie as tie
+use Rattle.trace.proofs.say_nodes.Statement.{statement}
+use Rattle.trace.proofs.say_nodes.Tie as tie
 
 abbrev Inv-loop : tie.InvT-loop
 Inv-loop records count i₀ t6 i = i ≤ count
