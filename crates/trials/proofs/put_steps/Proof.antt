@@ -1,4 +1,4 @@
--- `trials::put_steps` is safe and ends. Assumes nothing.
+-- Each byte of the query is written: safe, and it ends. Assumes nothing.
 use Prim.Native.Nat.{_-_, _≤_}
 use native.Mathlib.Omega.{arith}
 use mathlib.Core.Path.{_≡_}
