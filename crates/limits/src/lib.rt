@@ -41,4 +41,8 @@ pub const TOO_MANY_HELD: u8 = 7;
 pub const UNFINISHED: u8 = 8;
 
 // "lent room under 16,384 bytes for the open elements or under 32,768 bytes for the waiting nodes"
+pub const BAD_LENGTH: u8 = 9;
+
+pub const BAD_STEP: u8 = 10;
+
 pub const SHORT_ROOM: u8 = 15;

@@ -1,5 +1,3 @@
 pub mod Decimal
 pub mod Text
-pub mod TextLaws
 pub mod Put
-pub mod PutLaws

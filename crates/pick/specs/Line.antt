@@ -1,6 +1,6 @@
 -- The lines that the program writes besides the nodes, by what the calls answered.
 --
---   queryLine a             the line that answers a refused query; nothing for an admitted one
+--   queryLine a             the line that answers a refused begin; nothing where a session is begun
 --   finishLine f taken      the last line of a stream of which so many events were taken and none was refused, by what finish answers
 --   lastLine f taken r      the last line where event taken + 1 was refused with r; r is 0 where none was
 --
@@ -11,16 +11,18 @@ use mathlib.Core.Bool.{cond}
 use mathlib.Core.List.{List, []}
 use lib.Dec.{ltb}
 use Rattle.lines.specs.Text.{endLine, refusedAtLine, refusedLine}
-use Rattle.query.specs.declared.QueryAnswer.{QueryAnswer}
-use Rattle.query.specs.declared.QueryAnswer.the-variants.{Admitted, BadLength, BadStep}
+use Rattle.meaning.specs.Refusals.{shortRoom, badLength, badStep}
+use Rattle.session.specs.declared.Start.{Start}
+use Rattle.session.specs.declared.Start.the-variants as started
 use Rattle.session.specs.declared.Finish.{Finish}
 use Rattle.session.specs.declared.Finish.the-variants.{Refused, Ended}
 
 -- "Refusal 9 is written `refused 9`"; "for 10 the step number"
-abbrev pub queryLine : QueryAnswer → List ℕ
-queryLine Admitted = []
-queryLine BadLength = refusedLine 9
-queryLine (BadStep k) = refusedAtLine 10 k
+abbrev pub queryLine : Start → List ℕ
+queryLine started.Begun = []
+queryLine started.ShortRoom = refusedLine shortRoom
+queryLine started.BadLength = refusedLine badLength
+queryLine (started.BadStep k) = refusedAtLine badStep k
 
 -- "for refusal 8 the number of accepted events"; "`end N` with the number handed out"
 abbrev pub finishLine : Finish → ℕ → List ℕ

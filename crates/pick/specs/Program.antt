@@ -24,6 +24,7 @@ use mathlib.Core.List.{List, [], _∷_, _++_}
 use mathlib.Core.Option.{Option, none, some}
 use lib.ListN.{length, take}
 use Rattle.choice.specs.Pick.{pick}
+use Rattle.meaning.specs.Refusals.{unfinished}
 use Rattle.meaning.specs.Query.{Query}
 use Rattle.meaning.specs.Document.{finished}
 use Rattle.meaning.specs.Stream.{Event, document}
@@ -37,7 +38,7 @@ use Rattle.system.specs.Marks.{FileOpened, FileClosed, ReadOver, WriteTold, Rec
 
 -- "`end N` with the number handed out"; "for refusal 8 the number of accepted events"
 unfoldable pub finishLineOf : Query → List Event → List ℕ
-finishLineOf q es = pick (finished (document es)) (endLine (length (listed q (document es)))) (refusedAtLine 8 (length es))
+finishLineOf q es = pick (finished (document es)) (endLine (length (listed q (document es)))) (refusedAtLine unfinished (length es))
 
 -- "E is the number of the refused event, counted from 1"
 unfoldable pub lastLineBy : Option ℕ → Query → List Event → List ℕ

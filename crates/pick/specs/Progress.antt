@@ -1,10 +1,10 @@
 -- The records of some bytes, offered one after the other to a session, in the words of the meaning.
 --
---   Progress b es bs s taken refusal nodes     after the query bytes b and the accepted events es, records of bs were offered, up to the first refusal or fewer:
---                                             `taken` of them were accepted, have listed `nodes` and led to the session s; the next one was refused with the number
---                                             `refusal`, or none was and it is 0
+--   Progress b es bs l taken refusal nodes     after the query bytes b and the accepted events es, records of bs were offered, up to the first refusal or fewer:
+--                                             `taken` of them were accepted, have listed `nodes` and led to the session and room l; the next one was refused
+--                                             with the number `refusal`, or none was and it is 0
 --
--- Assumes nothing. NOT here: what offering records comes to (crate meaning, Offering), what a block of events is (crate blocks, Fed).
+-- Assumes nothing. NOT here: what offering records comes to (crate meaning, Offering), what a block of events is (crate session, Run).
 pub mod Laws
 pub mod Block
 use Prim.Native.Nat.{ℕ, _*_, _≤_, _<_}
@@ -16,13 +16,13 @@ use Rattle.meaning.specs.Stream.{Event, document}
 use Rattle.meaning.specs.Standing.{listed}
 use Rattle.meaning.specs.Offering.{offering}
 use Rattle.query.specs.Decode.{decode}
-use Rattle.session.specs.declared.Session.{Session}
+use Rattle.session.specs.Run.{Lent}
 use Rattle.promise.specs.Promise.{Of}
 
-pub record Progress (b : List ℕ) (es : List Event) (bs : List ℕ) (s : Session) (taken refusal : ℕ) (nodes : List ℕ) : Type 0 where
+pub record Progress (b : List ℕ) (es : List Event) (bs : List ℕ) (l : Lent) (taken refusal : ℕ) (nodes : List ℕ) : Type 0 where
   -- the events accepted by then
   pub events : List Event
-  pub reached : Of b events s
+  pub reached : Of b events l
   pub within : 8 * taken ≤ length bs
   pub accepted : offering (decode b) taken es bs ≡ record { events = events; refusal = none }
   pub left : (refusal ≡ 0 → ⊥) → 8 * taken < length bs

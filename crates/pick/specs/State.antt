@@ -3,16 +3,16 @@
 --   unread s input             what is read and not taken yet
 --   refusalOf r                the refusal that a number stands for: 0 is none
 --   UnreadWithin s n           what is unread lies in the first n bytes of the input
---   Started session            begin has made the session for some query
+--   BegunFor b session         begin has made the session for the query bytes b, to be used with any room;  Started session: for some query
 --   leftoverOf left            the refusal of so many leftover bytes, or 0
 --   moreToDo refusal ended written      another turn is taken
 --   ReadMore file s i s′ i′    a read: what it gave stands behind what was left over; where it gave nothing, the leftover bytes are a bad record
---   blockOf s input out        the block of the whole records that are unread (crate blocks, Fed)
---   Worked s input out s′      a block of events: the state is what it came to, the bytes not taken stand where the state says, and the lines of the nodes
---                              that it listed were handed to standard output
---   Turned file s i out s′ i′  the one or the other, by whether a whole record is there
---   TurnsSoFar b file s input  what the turns have come to, for the query bytes b, in the words of the meaning
---   Streamed b file s          what all turns come to, for the query bytes b;  WorkedAll file session s: for the query that the session was begun with
+--   blockOf s input E N out    the block of the whole records that are unread, with the room E and N (crate session, Run)
+--   Worked s input E N out s′ E′ N′     a block of events: the state and the room are what it came to, the bytes not taken stand where the state says, and
+--                              the lines of the nodes that it listed were handed to standard output
+--   Turned file s i E N out s′ i′ E′ N′     the one or the other, by whether a whole record is there; a read leaves the room
+--   TurnsSoFar b file s input E N      what the turns have come to, for the query bytes b, in the words of the meaning
+--   Streamed b file s E N      what all turns come to, for the query bytes b;  WorkedAll file session s E N: for the query that the session was begun with
 --   EventsLined b text r       every node's line is delivered, and the last line stands in the first r bytes of the text
 --   EventsAnswered session text r       EventsLined for the session's query; or standard output took no more, and no line is put
 --
@@ -28,19 +28,22 @@ use mathlib.Core.Option.{Option, none, some}
 use lib.Dec.{eqb}
 use lib.ListN.{length, take, drop}
 use Rattle.choice.specs.Pick.{pick}
+use Rattle.meaning.specs.Limits.{nodeLimit}
+use Rattle.meaning.specs.Refusals.{badRecord}
 use Rattle.meaning.specs.Stream.{document}
 use Rattle.meaning.specs.Standing.{listed}
 use Rattle.meaning.specs.Offering.{offeringAll}
 use Rattle.query.specs.Decode.{decode}
+use Rattle.feed.specs.Fed.{Fed}
 use Rattle.session.specs.declared.Session.{Session}
+use Rattle.session.specs.Run.{Lent, lent}
 use Rattle.promise.specs.Promise.{Of}
-use Rattle.blocks.specs.Fed.{Fed}
 use Rattle.lines.specs.Text.{linesOf, nodesIn}
 use Rattle.system.specs.declared.File.{File}
 use Rattle.system.specs.Marks.{ReadGave, ReadOver, WriteTold, Received, Delivered}
 use Rattle.pick.specs.declared.State.{State}
 use Rattle.pick.specs.Progress.{Progress}
-use Rattle.pick.specs.Progress.Block.{blockFed}
+use Rattle.pick.specs.Progress.Block.{Enough, blockFed}
 use Rattle.pick.specs.Program.{lastLineOf, Failed, EventsRead}
 
 abbrev pub unread : State → List ℕ → List ℕ
@@ -55,13 +58,17 @@ pub record UnreadWithin (s : State) (n : ℕ) : Type 0 where
   pub forward : s .from ≤ s .end
   pub inside : s .end ≤ n
 
+-- "Nothing is asked of the room's content at begin"
+abbrev pub BegunFor : List ℕ → Session → Type 0
+BegunFor b session = (E N : List ℕ) → Of b [] (lent session E N)
+
 pub record Started (session : Session) : Type 0 where
   pub query : List ℕ
-  pub begun : Of query [] session
+  pub begun : BegunFor query session
 
 -- "Leftover bytes under 8 are a bad record."
 unfoldable pub leftoverOf : ℕ → ℕ
-leftoverOf left = pick (eqb left 0) 0 2
+leftoverOf left = pick (eqb left 0) 0 badRecord
 
 unfoldable pub moreToDo : ℕ → Bool → Bool → Bool
 moreToDo refusal ended written = pick (eqb refusal 0) (pick ended false written) false
@@ -80,28 +87,29 @@ pub record ReadMore (file : File) (s : State) (input : List ℕ) (s′ : State) 
   pub over : s′ .ended ≡ true → ReadOver file
 
 -- the block that is worked on
-abbrev pub blockOf : State → List ℕ → List ℕ → Fed
-blockOf s input out = blockFed (s .session) (unread s input) out
+abbrev pub blockOf : State → List ℕ → List ℕ → List ℕ → List ℕ → Fed Lent
+blockOf s input E N out = blockFed (lent (s .session) E N) (unread s input) out
 
-pub record Worked (s : State) (input out : List ℕ) (s′ : State) : Type 0 where
-  pub session-so : s′ .session ≡ blockOf s input out .session
-  pub taken-so : s′ .taken ≡ s .taken + blockOf s input out .taken
-  pub refusal-so : s′ .refusal ≡ blockOf s input out .refusal
-  pub left : unread s′ input ≡ drop (8 * blockOf s input out .taken) (unread s input)
+pub record Worked (s : State) (input E N out : List ℕ) (s′ : State) (E′ N′ : List ℕ) : Type 0 where
+  pub seat-so : lent (s′ .session) E′ N′ ≡ blockOf s input E N out .seat
+  pub taken-so : s′ .taken ≡ s .taken + blockOf s input E N out .taken
+  pub refusal-so : s′ .refusal ≡ blockOf s input E N out .refusal
+  pub left : unread s′ input ≡ drop (8 * blockOf s input E N out .taken) (unread s input)
   pub within : UnreadWithin s′ (length input)
   pub not-ended : s′ .ended ≡ false
-  pub handed : WriteTold (linesOf (nodesIn (blockOf s input out .listed) (blockOf s input out .out))) (s′ .written)
+  pub handed : WriteTold (linesOf (nodesIn (blockOf s input E N out .listed) (blockOf s input E N out .out))) (s′ .written)
 
-pub data Turned (file : File) (s : State) (input out : List ℕ) (s′ : State) (input′ : List ℕ) : Type 0 where
-  worked : 8 ≤ s .end - s .from → input′ ≡ input → Worked s input out s′ → Turned file s input out s′ input′
-  read : s .end - s .from < 8 → ReadMore file s input s′ input′ → Turned file s input out s′ input′
+pub data Turned (file : File) (s : State) (input E N out : List ℕ) (s′ : State) (input′ E′ N′ : List ℕ) : Type 0 where
+  worked : 8 ≤ s .end - s .from → input′ ≡ input → Worked s input E N out s′ E′ N′ → Turned file s input E N out s′ input′ E′ N′
+  read : s .end - s .from < 8 → E′ ≡ E → N′ ≡ N → ReadMore file s input s′ input′ → Turned file s input E N out s′ input′ E′ N′
 
-pub record TurnsSoFar (b : List ℕ) (file : File) (s : State) (input : List ℕ) : Type 0 where
+pub record TurnsSoFar (b : List ℕ) (file : File) (s : State) (input E N : List ℕ) : Type 0 where
   -- what the reads have given, end to end, and what is listed for it
   pub bytes : List ℕ
   pub nodes : List ℕ
   pub received : Received file bytes
-  pub offered : Progress b [] bytes (s .session) (s .taken) (s .refusal) nodes
+  pub offered : Progress b [] bytes (lent (s .session) E N) (s .taken) (s .refusal) nodes
+  pub enough : Enough (lent (s .session) E N)
   pub rest : unread s input ≡ drop (8 * s .taken) bytes
   -- a read has given nothing; then nothing is left over or it was refused
   pub at-end : s .ended ≡ true → ReadOver file
@@ -112,18 +120,18 @@ pub record TurnsSoFar (b : List ℕ) (file : File) (s : State) (input : List ℕ
   pub failed : s .written ≡ false → Failed
 
 -- the whole stream, for the query bytes b
-pub record Streamed (b : List ℕ) (file : File) (s : State) : Type 0 where
+pub record Streamed (b : List ℕ) (file : File) (s : State) (E N : List ℕ) : Type 0 where
   pub bytes : List ℕ
   pub received : Received file bytes
-  pub reached : Of b (offeringAll (decode b) bytes .events) (s .session)
+  pub reached : Of b (offeringAll (decode b) bytes .events) (lent (s .session) E N)
   pub counted : s .taken ≡ length (offeringAll (decode b) bytes .events)
   pub refusal-so : refusalOf (s .refusal) ≡ offeringAll (decode b) bytes .refusal
   pub to-end : ReadOver file ⊎ ((more : List ℕ) → offeringAll (decode b) (bytes ++ more) ≡ offeringAll (decode b) bytes)
   pub delivered : Delivered (linesOf (listed (decode b) (document (offeringAll (decode b) bytes .events))))
 
-pub record WorkedAll (file : File) (session : Session) (s : State) : Type 0 where
-  pub few : s .taken ≤ 33554430
-  pub streamed : s .written ≡ true → (b : List ℕ) → Of b [] session → Streamed b file s
+pub record WorkedAll (file : File) (session : Session) (s : State) (E N : List ℕ) : Type 0 where
+  pub few : s .taken ≤ 2 * nodeLimit
+  pub streamed : s .written ≡ true → (b : List ℕ) → BegunFor b session → Streamed b file s E N
   pub failed : s .written ≡ false → Failed
 
 -- for the query bytes b: every node's line is delivered, and the last line stands at the start of the text
@@ -134,4 +142,4 @@ pub record EventsLined (b text : List ℕ) (r : ℕ) : Type 0 where
   pub line : take r text ≡ lastLineOf (decode b) (offeringAll (decode b) bytes)
 
 abbrev pub EventsAnswered : Session → List ℕ → ℕ → Type 0
-EventsAnswered session text r = ((b : List ℕ) → Of b [] session → EventsLined b text r) ⊎ (Failed × (r ≡ 0))
+EventsAnswered session text r = ((b : List ℕ) → BegunFor b session → EventsLined b text r) ⊎ (Failed × (r ≡ 0))

@@ -5,18 +5,19 @@
 ghost use mathlib.Core.Path.{_≡_};
 ghost use Prim.Native.Nat.{_+_, _-_, _*_, _≤_, _<_};
 ghost use lib.ListN.{length, take, drop};
-ghost use Rattle.blocks.specs.Fed.{RunGives};
+ghost use Rattle.meaning.specs.Limits.{nodeLimit, outputNeeded, elementsNeeded, nodesNeeded};
 ghost use Rattle.io.specs.Counts.{Counts};
+ghost use Rattle.session.specs.Run.{RunGives};
 ghost use Rattle.lines.specs.Put.{Put};
 ghost use Rattle.lines.specs.Text.{linesOf, nodesIn};
 ghost use Rattle.system.specs.Marks.{WriteTold};
 ghost use Rattle.pick.specs.Program.{Outcome, Replied};
 ghost use Rattle.pick.specs.Line.{queryLine, lastLine};
 ghost use Rattle.pick.specs.State.{UnreadWithin, Started, leftoverOf, moreToDo, ReadMore, Worked, Turned, WorkedAll, EventsAnswered};
-use blocks::Ran;
-use query::QueryAnswer;
 use session::Finish;
+use session::Ran;
 use session::Session;
+use session::Start;
 use system::File;
 
 // How far the stream is worked on.
@@ -42,14 +43,22 @@ struct BlockText {
 }
 
 // Offers the events one after the other, and puts the lines of what they hand out.
-fn work(session: Session, events: &[u8], out: &mut [u8], text: &mut [u8]) -> BlockText
+fn work(
+    session: Session,
+    events: &[u8],
+    elements: &mut [u8],
+    nodes: &mut [u8],
+    out: &mut [u8],
+    text: &mut [u8],
+) -> BlockText
     requires { ⌜ 11 * length (now out) ≤ 4 * length (now text) ⌝ }
     ensures { λ r. ⌜ Put (now (text .entry)) 0 (linesOf (nodesIn (r .ran .listed) (now (out .exit)))) (now (text .exit)) (r .length) ⌝ }
     ensures { λ r. ⌜ Counts (r .length) (now (text .exit)) ⌝ }
     ensures { λ r. ⌜ 8 * r .ran .taken ≤ length (now (events .entry)) ⌝ }
-    ensures { λ r. ⌜ RunGives session (now (events .entry)) (now (out .entry)) (r .ran) (now (out .exit)) ⌝ }
+    ensures { λ r. ⌜ RunGives session (now (events .entry)) (now (elements .entry)) (now (nodes .entry)) (now (out .entry)) (r .ran)
+        (now (elements .exit)) (now (nodes .exit)) (now (out .exit)) ⌝ }
 {
-    let ran = blocks::run(session, events, out);
+    let ran = session.run(events, elements, nodes, out);
     let length = lines::put_lines(&*out, ran.listed, text);
     BlockText { ran, length }
 }
@@ -67,16 +76,17 @@ fn move_down(input: &mut [u8], from: usize, left: usize)
     }
 }
 
-// "Refusal 9 is written `refused 9`"; "for 10 the step number".
-fn query_line(answer: QueryAnswer, text: &mut [u8]) -> usize
+// "Refusal 9 is written `refused 9`"; "for 10 the step number". The program lends enough room, so it never writes `refused 15`.
+fn query_line(answer: Start, text: &mut [u8]) -> usize
     requires { ⌜ 64 ≤ length (now text) ⌝ }
     ensures { λ r. ⌜ Put (now (text .entry)) 0 (queryLine answer) (now (text .exit)) r ⌝ }
     ensures { λ r. ⌜ Counts r (now (text .exit)) ⌝ }
 {
     match answer {
-        QueryAnswer::Admitted => 0,
-        QueryAnswer::BadLength => lines::put_refused(9, text),
-        QueryAnswer::BadStep(step) => lines::put_refused_at(10, step as u64, text),
+        Start::Begun => 0,
+        Start::ShortRoom => lines::put_refused(limits::SHORT_ROOM, text),
+        Start::BadLength => lines::put_refused(limits::BAD_LENGTH, text),
+        Start::BadStep(step) => lines::put_refused_at(limits::BAD_STEP, step as u64, text),
     }
 }
 
@@ -102,7 +112,7 @@ fn leftover(left: usize) -> u8
     if left == 0 {
         return 0;
     }
-    2
+    limits::BAD_RECORD
 }
 
 // Reads once, behind what is left over.
@@ -149,15 +159,23 @@ fn write_text(text: &[u8], length: usize) -> bool
 }
 
 // Works on what is read, and writes the lines.
-fn work_block(state: State, input: &[u8], out: &mut [u8], text: &mut [u8]) -> State
+fn work_block(
+    state: State,
+    input: &[u8],
+    elements: &mut [u8],
+    nodes: &mut [u8],
+    out: &mut [u8],
+    text: &mut [u8],
+) -> State
     requires { ⌜ UnreadWithin state (length (now input)) × (11 * length (now out) ≤ 4 * length (now text)) ⌝ }
-    requires { ⌜ (length (now input) ≤ 65536) × (state .taken ≤ 33554430) ⌝ }
-    ensures { λ r. ⌜ Worked state (now (input .entry)) (now (out .entry)) r ⌝ }
+    requires { ⌜ (length (now input) ≤ 65536) × (state .taken ≤ 2 * nodeLimit) ⌝ }
+    ensures { λ r. ⌜ Worked state (now (input .entry)) (now (elements .entry)) (now (nodes .entry)) (now (out .entry)) r
+        (now (elements .exit)) (now (nodes .exit)) ⌝ }
 {
     let from = state.from;
     let end = state.end;
     let session = state.session;
-    let block = work(session, &input[from..end], out, text);
+    let block = work(session, &input[from..end], elements, nodes, out, text);
     let length = block.length;
     let written = write_text(&*text, length);
     let ran = block.ran;
@@ -175,14 +193,23 @@ fn work_block(state: State, input: &[u8], out: &mut [u8], text: &mut [u8]) -> St
 }
 
 // Works on what is read where a whole record is there, else reads once.
-fn turn(file: File, state: State, input: &mut [u8], out: &mut [u8], text: &mut [u8]) -> State
+fn turn(
+    file: File,
+    state: State,
+    input: &mut [u8],
+    elements: &mut [u8],
+    nodes: &mut [u8],
+    out: &mut [u8],
+    text: &mut [u8],
+) -> State
     requires { ⌜ UnreadWithin state (length (now input)) × (11 * length (now out) ≤ 4 * length (now text)) ⌝ }
-    requires { ⌜ ((8 ≤ length (now input)) × (length (now input) ≤ 65536)) × (state .taken ≤ 33554430) ⌝ }
-    ensures { λ r. ⌜ Turned file state (now (input .entry)) (now (out .entry)) r (now (input .exit)) ⌝ }
+    requires { ⌜ ((8 ≤ length (now input)) × (length (now input) ≤ 65536)) × (state .taken ≤ 2 * nodeLimit) ⌝ }
+    ensures { λ r. ⌜ Turned file state (now (input .entry)) (now (elements .entry)) (now (nodes .entry)) (now (out .entry)) r
+        (now (input .exit)) (now (elements .exit)) (now (nodes .exit)) ⌝ }
 {
     let left = state.end - state.from;
     if 8 <= left {
-        return work_block(state, &*input, out, text);
+        return work_block(state, &*input, elements, nodes, out, text);
     }
     read_more(file, state, input)
 }
@@ -201,17 +228,20 @@ fn more_to_do(refusal: u8, ended: bool, written: bool) -> bool
 }
 
 // A file need not end, but the loop does: a turn that reads gets a byte or is the last, a turn that works takes an event or is the last, and no
-// more than 33,554,430 events are ever taken.
+// more than two events for each node that may be opened are ever taken.
 fn work_all(
     file: File,
     session: Session,
     input: &mut [u8],
+    elements: &mut [u8],
+    nodes: &mut [u8],
     out: &mut [u8],
     text: &mut [u8],
 ) -> State
     requires { ⌜ ((8 ≤ length (now input)) × (length (now input) ≤ 65536)) × (11 * length (now out) ≤ 4 * length (now text)) ⌝ }
-    requires { ⌜ (516 ≤ length (now out)) × Started session ⌝ }
-    ensures { λ r. ⌜ WorkedAll file session r ⌝ }
+    requires { ⌜ (elementsNeeded ≤ length (now elements)) × (nodesNeeded ≤ length (now nodes)) ⌝ }
+    requires { ⌜ (outputNeeded ≤ length (now out)) × Started session ⌝ }
+    ensures { λ r. ⌜ WorkedAll file session r (now (elements .exit)) (now (nodes .exit)) ⌝ }
 {
     let mut state = State {
         session,
@@ -223,13 +253,14 @@ fn work_all(
         written: true,
     };
     while more_to_do(state.refusal, state.ended, state.written) {
-        state = turn(file, state, input, out, text);
+        state = turn(file, state, input, elements, nodes, out, text);
     }
     state
 }
 
 // "a file that can't be opened counts as empty": every read of it fails. Where standard output takes no more, no last line is put.
-fn answer_events(session: Session, text: &mut [u8]) -> usize
+fn answer_events(session: Session, elements: &mut [u8], nodes: &mut [u8], text: &mut [u8]) -> usize
+    requires { ⌜ (elementsNeeded ≤ length (now elements)) × (nodesNeeded ≤ length (now nodes)) ⌝ }
     requires { ⌜ (90112 ≤ length (now text)) × Started session ⌝ }
     ensures { λ r. ⌜ EventsAnswered session (now (text .exit)) r ⌝ }
     ensures { λ r. ⌜ Counts r (now (text .exit)) ⌝ }
@@ -237,7 +268,7 @@ fn answer_events(session: Session, text: &mut [u8]) -> usize
     let mut input = [0u8; 65536];
     let mut out = [0u8; 32768];
     let file = system::open(b"events.rec");
-    let state = work_all(file, session, &mut input, &mut out, text);
+    let state = work_all(file, session, &mut input, elements, nodes, &mut out, text);
     system::close(file);
     if state.written {
         let end = state.session;
@@ -253,14 +284,16 @@ fn answer(query: &[u8], text: &mut [u8]) -> usize
     ensures { λ r. ⌜ Replied (now (query .entry)) (now (text .exit)) r ⌝ }
     ensures { λ r. ⌜ Counts r (now (text .exit)) ⌝ }
 {
-    let begun = session::begin(query);
+    let mut elements = [0u8; 16384];
+    let mut nodes = [0u8; 32768];
+    let begun = session::begin(query, &elements, &nodes);
     let answer = begun.answer;
     let refused = query_line(answer, text);
     if 0 < refused {
         return refused;
     }
     let session = begun.session;
-    answer_events(session, text)
+    answer_events(session, &mut elements, &mut nodes, text)
 }
 
 // The whole program; `main` itself can have no contract.

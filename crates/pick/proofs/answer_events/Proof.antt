@@ -3,8 +3,9 @@ use native.Mathlib.Omega.{arith}
 use mathlib.Core.Logic.{inl, inr}
 use mathlib.Core.Path.{refl}
 use borrow.Author.Needs.{needs}
+use Rattle.meaning.specs.Limits.Laws.{node-limit-is, output-is}
 use Rattle.session.specs.Event.Laws.{finish-is}
-use Rattle.lines.specs.PutLaws.{put-taken}
+use Rattle.lines.specs.Put.Laws.{put-taken}
 use Rattle.pick.specs.Program.Laws.{streamed-lined}
 use Rattle.pick.proofs.answer_events.Statement.{statement}
 use Rattle.pick.proofs.answer_events.Tie as tie
@@ -22,7 +23,9 @@ slice-aggregate-work-all-2 : tie.Need-slice-aggregate-work-all-2
 slice-aggregate-work-all-2 c = search needs
 
 work-all-requires : tie.Need-work-all-requires
-work-all-requires c κs = (((search needs, search needs), search needs), (search needs, c .before .before .before .before .before .before .pre .1))
+work-all-requires c κs =
+    let pre = c .before .before .before .before .before .before .before .before .before .before .pre in
+    (((search needs, search needs), search needs), (pre .0, (omega (arith, output-is), pre .1 .1)))
 
 close-requires : tie.Need-close-requires
 close-requires c κs = search needs
@@ -31,27 +34,41 @@ finish-requires : tie.Need-finish-requires
 finish-requires c κs = search needs
 
 last-line-requires : tie.Need-last-line-requires
-last-line-requires c κs = search needs
+last-line-requires c κs =
+    let few = c .before .before .before .before .before .before .before .before .before .before .before .before .before .work-all .ensures .few in
+    (omega (arith, c .before .before .before .before .before .before .before .before .before .before .before .before .before .before .before .before .before .before .before .before .before .before .before .before .pre .1 .0), omega (arith, few, node-limit-is))
 
 same-length : tie.Need-same-length
 same-length c = search needs
 
+same-length-2 : tie.Need-same-length-2
+same-length-2 c = search needs
+
+same-length-3 : tie.Need-same-length-3
+same-length-3 c = search needs
+
 returns : tie.Need-returns
 returns c =
-    let opened = c .before .before .before .before .before .before .before .before .before .before .before .before .before .before .before .before .open .ensures in
+    let opened = c .before .before .before .before .before .before .before .before .before .before .before .before .before .before .before .before .before .before .before .before .before .before .«open» .ensures in
     let closed = c .before .before .before .before .before .before .before .close .ensures in
-    let work = c .before .before .before .before .before .before .before .before .before .before .before .before .work-all .ensures in
+    let work = c .before .before .before .before .before .before .before .before .before .before .before .before .before .before .before .before .work-all .ensures in
     let written = c .before .before .before .before .before .before .if1 .taken in
     let finished = c .before .before .before .before .finish in
     let line = c .before .before .last-line .ensures in
     let ended = finish-is _ (finished .result) (finished .ensures) in
     (inl (λ b o. streamed-lined opened closed (work .streamed written b o) _ ended _ _ (put-taken (line .0) (search needs))), line .1)
 
-same-length-2 : tie.Need-same-length-2
-same-length-2 c = search needs
+same-length-4 : tie.Need-same-length-4
+same-length-4 c = search needs
+
+same-length-5 : tie.Need-same-length-5
+same-length-5 c = search needs
+
+same-length-6 : tie.Need-same-length-6
+same-length-6 c = search needs
 
 returns-2 : tie.Need-returns-2
-returns-2 c = (inr (c .before .before .before .before .before .before .work-all .ensures .failed (c .if1 .left), refl), (omega arith, refl))
+returns-2 c = (inr (c .before .before .before .before .before .before .before .before .before .before .work-all .ensures .failed (c .if1 .left), refl), (omega arith, refl))
 
 pub answer-events-spec : {M : Type 1} → statement M
 answer-events-spec =
@@ -66,6 +83,10 @@ answer-events-spec =
     finish-requires
     last-line-requires
     same-length
-    returns
     same-length-2
+    same-length-3
+    returns
+    same-length-4
+    same-length-5
+    same-length-6
     returns-2)

@@ -5,7 +5,7 @@ use native.Mathlib.Omega.{arith}
 use mathlib.Core.Path.{_≡_, refl}
 use lib.ListN.{length, take, drop, length-set, length-drop}
 use Rattle.lines.specs.Put.{Put}
-use Rattle.lines.specs.PutLaws.{put-none}
+use Rattle.lines.specs.Put.Laws.{put-none}
 use Rattle.pick.specs.Line.Laws.{put-moved}
 use Rattle.pick.proofs.move_down.Statement.{statement}
 use Rattle.pick.proofs.move_down.Tie as tie

@@ -1,6 +1,6 @@
 -- `pick::query_line` meets its contract. Assumes nothing.
 use borrow.Author.Needs.{needs}
-use Rattle.lines.specs.PutLaws.{put-none}
+use Rattle.lines.specs.Put.Laws.{put-none}
 use Rattle.pick.specs.Line.Laws.{query-line-is}
 use Rattle.pick.proofs.query_line.Statement.{statement}
 use Rattle.pick.proofs.query_line.Tie as tie
@@ -13,6 +13,12 @@ enum-told-2 c = search needs
 
 put-refused-requires : tie.Need-put-refused-requires
 put-refused-requires c κs = search needs
+
+enum-told-3 : tie.Need-enum-told-3
+enum-told-3 c = search needs
+
+put-refused-requires-2 : tie.Need-put-refused-requires-2
+put-refused-requires-2 c κs = search needs
 
 enum-known-answer : tie.Need-enum-known-answer
 enum-known-answer c = search needs
@@ -36,7 +42,13 @@ same-length-2 : tie.Need-same-length-2
 same-length-2 c = search needs
 
 returns-3 : tie.Need-returns-3
-returns-3 c = query-line-is (c .before .before .before .before .before .answer .given .1) (c .before .before .put-refused-at .ensures)
+returns-3 c = query-line-is (c .before .before .before .before .enum-told3 .given .1) (c .before .before .put-refused2 .ensures)
+
+same-length-3 : tie.Need-same-length-3
+same-length-3 c = search needs
+
+returns-4 : tie.Need-returns-4
+returns-4 c = query-line-is (c .before .before .before .before .before .answer .given .1) (c .before .before .put-refused-at .ensures)
 
 pub query-line-spec : {M : Type 1} → statement M
 query-line-spec =
@@ -45,6 +57,8 @@ query-line-spec =
     enum-told
     enum-told-2
     put-refused-requires
+    enum-told-3
+    put-refused-requires-2
     enum-known-answer
     cast-put-refused-at
     put-refused-at-requires
@@ -52,4 +66,6 @@ query-line-spec =
     same-length
     returns-2
     same-length-2
-    returns-3)
+    returns-3
+    same-length-3
+    returns-4)

@@ -20,17 +20,23 @@ same-length-2 c = search needs
 same-length-3 : tie.Need-same-length-3
 same-length-3 c = search needs
 
+same-length-4 : tie.Need-same-length-4
+same-length-4 c = search needs
+
+same-length-5 : tie.Need-same-length-5
+same-length-5 c = search needs
+
 returns : tie.Need-returns
-returns c = worked (c .before .before .before .before .before .before .before .before .if1 .taken) refl (c .before .before .before .before .work-block .ensures)
+returns c = worked (c .before .before .before .before .before .before .before .before .before .before .before .before .before .before .if1 .taken) refl (c .before .before .before .before .before .before .before .before .work-block .ensures)
 
 read-more-requires : tie.Need-read-more-requires
 read-more-requires c κs = search needs
 
-same-length-4 : tie.Need-same-length-4
-same-length-4 c = search needs
+same-length-6 : tie.Need-same-length-6
+same-length-6 c = search needs
 
 returns-2 : tie.Need-returns-2
-returns-2 c = read (c .before .before .before .before .if1 .left) (c .before .before .read-more .ensures)
+returns-2 c = read (c .before .before .before .before .if1 .left) refl refl (c .before .before .read-more .ensures)
 
 pub turn-spec : {M : Type 1} → statement M
 turn-spec =
@@ -41,7 +47,9 @@ turn-spec =
     same-length
     same-length-2
     same-length-3
+    same-length-4
+    same-length-5
     returns
     read-more-requires
-    same-length-4
+    same-length-6
     returns-2)

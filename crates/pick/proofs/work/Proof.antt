@@ -15,11 +15,17 @@ same-length c = search needs
 same-length-2 : tie.Need-same-length-2
 same-length-2 c = search needs
 
+same-length-3 : tie.Need-same-length-3
+same-length-3 c = search needs
+
+same-length-4 : tie.Need-same-length-4
+same-length-4 c = search needs
+
 returns : tie.Need-returns
 returns c =
-    let run = c .before .before .before .before .before .before .before .run .ensures in
+    let run = c .before .before .before .before .before .before .before .before .before .before .before .run .ensures in
     let lines = c .before .before .put-lines .ensures in
     (lines .0, (search needs, (run .1 .0, run .0)))
 
 pub work-spec : {M : Type 1} → statement M
-work-spec = tie.close (tie.spec run-requires put-lines-requires same-length same-length-2 returns)
+work-spec = tie.close (tie.spec run-requires put-lines-requires same-length same-length-2 same-length-3 same-length-4 returns)

@@ -3,28 +3,35 @@
 use Prim.Native.Nat.{ℕ}
 use native.Mathlib.Omega.{arith}
 use mathlib.Core.Path.{_≡_, refl, sym, _∙_}
-use mathlib.Core.List.{List, []}
+use mathlib.Core.List.{List}
 use lib.ListN.{length}
 use borrow.Author.Needs.{needs}
-use Rattle.promise.specs.Promise.{Of}
-use Rattle.pick.specs.State.{UnreadWithin, TurnsSoFar}
+use Rattle.meaning.specs.Answer.Laws.{not-small}
+use Rattle.pick.specs.State.{UnreadWithin, BegunFor, TurnsSoFar}
 use Rattle.pick.specs.State.Turns.{begun-so-far, turn-so-far, turn-within, measure, turn-less, so-far-few, so-far-streamed}
 use Rattle.pick.proofs.work_all.Statement.{statement}
 use Rattle.pick.proofs.work_all.Tie as tie
 
 abbrev Inv-loop : tie.InvT-loop
-Inv-loop file input₀ out₀ text₀ state₀ input out text state =
-    ((length input ≡ length input₀) × ((length out ≡ length out₀) × (length text ≡ length text₀)))
-    × (UnreadWithin state (length input) × ((b : List ℕ) → Of b [] (state₀ .session) → TurnsSoFar b file state input))
+Inv-loop file input₀ elements₀ nodes₀ out₀ text₀ state₀ input elements nodes out text state =
+    (((length input ≡ length input₀) × ((length elements ≡ length elements₀) × (length nodes ≡ length nodes₀)))
+    × ((length out ≡ length out₀) × (length text ≡ length text₀)))
+    × (UnreadWithin state (length input) × ((b : List ℕ) → BegunFor b (state₀ .session) → TurnsSoFar b file state input elements nodes))
 
 abbrev μ-loop : tie.MeasureT-loop
-μ-loop file input₀ out₀ text₀ state₀ input out text state = measure (length input₀) state input
+μ-loop file input₀ elements₀ nodes₀ out₀ text₀ state₀ input elements nodes out text state = measure (length input₀) state input
 
 loop-holds : tie.Need-loop-holds Inv-loop μ-loop
 loop-holds c =
-    let a = c .before .before .before .args in (
-      (refl, (refl, refl)),
-      (record { forward = omega arith; inside = omega arith }, λ b o. begun-so-far (a .file) (a .session) (a .input .now) o),
+    let start = c .before .before .before .before .before in
+    let a = start .args in
+    let enough = not-small (length (a .elements .now)) (length (a .nodes .now)) (start .pre .1 .0 .0) (start .pre .1 .0 .1) in (
+      ((refl, (refl, refl)), (refl, refl)),
+      (
+        record { forward = omega arith; inside = omega arith },
+        λ b o.
+            begun-so-far (a .file) (a .session) (a .input .now) (a .elements .now) (a .nodes .now) enough (o (a .elements .now) (a .nodes .now)),
+      ),
     )
 
 more-to-do-requires : tie.Need-more-to-do-requires Inv-loop μ-loop
@@ -32,30 +39,30 @@ more-to-do-requires c κs = search needs
 
 turn-requires : tie.Need-turn-requires Inv-loop μ-loop
 turn-requires c κs =
-    let begun = c .before .before .before .before .before .before .before .before .before .pre .1 .1 in
-    let inv = c .before .before .before .before .before .loop .inv in
+    let begun = c .before .before .before .before .before .before .before .before .before .before .before .before .before .pre .1 .1 .1 in
+    let inv = c .before .before .before .before .before .before .before .loop .inv in
     ((inv .1 .0, omega arith), ((omega arith, omega arith), so-far-few (inv .1 .1 (begun .query) (begun .begun))))
 
 loop-less : tie.Need-loop-less Inv-loop μ-loop
 loop-less c =
-    let start = c .before .before .before .before .before .before .before .before .before .before .before .before .before .before .before .before in
-    let l = c .before .before .before .before .before .before .before .before .before .before .before .before .loop in
-    let u = l .inv .1 .1 (start .pre .1 .1 .query) (start .pre .1 .1 .begun) in
-    let tested = c .before .before .before .before .before .before .before .before .before .before .before .more-to-do .ensures in
-    let more = c .before .before .before .before .before .before .before .before .before .before .if1 .taken in
-    turn-less (l .state) (l .input) u (sym tested ∙ more) (l .inv .1 .0)
-    (length (start .args .input .now)) (l .out) _ _ (omega arith) (omega arith) (omega arith) (c .before .before .before .before .before .before .turn .ensures)
+    let start = c .before .before .before .before .before .before .before .before .before .before .before .before .before .before .before .before .before .before .before .before .before .before .before .before in
+    let l = c .before .before .before .before .before .before .before .before .before .before .before .before .before .before .before .before .before .before .loop in
+    let u = l .inv .1 .1 (start .pre .1 .1 .1 .query) (start .pre .1 .1 .1 .begun) in
+    let tested = c .before .before .before .before .before .before .before .before .before .before .before .before .before .before .before .before .before .more-to-do .ensures in
+    let more = c .before .before .before .before .before .before .before .before .before .before .before .before .before .before .before .before .if1 .taken in
+    turn-less (l .state) (l .input) (l .elements) (l .nodes) u (sym tested ∙ more) (l .inv .1 .0)
+    (length (start .args .input .now)) (l .out) _ _ _ _ (omega arith) (omega arith) (omega arith) (c .before .before .before .before .before .before .before .before .before .before .turn .ensures)
 
 loop-again : tie.Need-loop-again Inv-loop μ-loop
 loop-again c =
-    let l = c .before .before .before .before .before .before .before .before .before .before .before .before .loop in
-    let tested = c .before .before .before .before .before .before .before .before .before .before .before .more-to-do .ensures in
-    let more = sym tested ∙ c .before .before .before .before .before .before .before .before .before .before .if1 .taken in
-    let turned = c .before .before .before .before .before .before .turn .ensures in (
-      (omega arith, (omega arith, omega arith)),
+    let l = c .before .before .before .before .before .before .before .before .before .before .before .before .before .before .before .before .before .before .loop in
+    let tested = c .before .before .before .before .before .before .before .before .before .before .before .before .before .before .before .before .before .more-to-do .ensures in
+    let more = sym tested ∙ c .before .before .before .before .before .before .before .before .before .before .before .before .before .before .before .before .if1 .taken in
+    let turned = c .before .before .before .before .before .before .before .before .before .before .turn .ensures in (
+      ((omega arith, (omega arith, omega arith)), (omega arith, omega arith)),
       (
-        turn-within (l .state) (l .input) (l .out) _ _ turned,
-        λ b o. turn-so-far (l .state) (l .input) (l .inv .1 .1 b o) more (l .inv .1 .0) (l .out) _ _ turned,
+        turn-within (l .state) (l .input) (l .elements) (l .nodes) (l .out) _ _ _ _ turned,
+        λ b o. turn-so-far (l .state) (l .input) (l .elements) (l .nodes) (l .inv .1 .1 b o) more (l .inv .1 .0) (l .out) _ _ _ _ turned,
       ),
     )
 
@@ -68,9 +75,15 @@ same-length-2 c = omega arith
 same-length-3 : tie.Need-same-length-3 Inv-loop μ-loop
 same-length-3 c = omega arith
 
+same-length-4 : tie.Need-same-length-4 Inv-loop μ-loop
+same-length-4 c = omega arith
+
+same-length-5 : tie.Need-same-length-5 Inv-loop μ-loop
+same-length-5 c = omega arith
+
 returns : tie.Need-returns Inv-loop μ-loop
 returns c =
-    let begun = c .before .before .before .before .before .before .pre .1 .1 in
+    let begun = c .before .before .before .before .before .before .before .before .pre .1 .1 .1 in
     let u = c .before .before .loop .inv .1 .1 in
     let stop = sym (c .before .more-to-do .ensures) ∙ c .if1 .left in
     record {
@@ -93,4 +106,6 @@ work-all-spec =
     same-length
     same-length-2
     same-length-3
+    same-length-4
+    same-length-5
     returns)

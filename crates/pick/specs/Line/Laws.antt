@@ -14,14 +14,14 @@ use lib.Seq.{sets, getD-set-other, getD-drop}
 use borrow.Author.Tests.{lt-ltb, le-ltb}
 use Rattle.io.specs.Counts.{Counts}
 use Rattle.lines.specs.Put.{Put}
-use Rattle.lines.specs.PutLaws.{put-more}
+use Rattle.lines.specs.Put.Laws.{put-more}
 use Rattle.lines.specs.Text.{refusedAtLine}
-use Rattle.query.specs.declared.QueryAnswer.{QueryAnswer}
+use Rattle.session.specs.declared.Start.{Start}
 use Rattle.session.specs.declared.Finish.{Finish}
 use Rattle.pick.specs.Line.{queryLine, finishLine, lastLine}
 
 module _ {l l′ : List ℕ} {n : ℕ} where
-  pub query-line-is : {a b : QueryAnswer} → a ≡ b → Put l 0 (queryLine b) l′ n × Counts n l′ → Put l 0 (queryLine a) l′ n × Counts n l′
+  pub query-line-is : {a b : Start} → a ≡ b → Put l 0 (queryLine b) l′ n × Counts n l′ → Put l 0 (queryLine a) l′ n × Counts n l′
   query-line-is e p = rw e p
 
   pub finish-line-is :

@@ -10,32 +10,37 @@
 use Prim.Native.Nat.{ℕ, zero, suc, _+_, _%_, _≤_, _<_}
 use native.Mathlib.Omega.{arith}
 use mathlib.Core.Logic.{_⊎_, inl, inr}
-use mathlib.Core.Path.{_≡_, refl, sym, ap, _∙_, subst}
+use mathlib.Core.Path.{_≡_, refl, sym, ap, ap₂, _∙_, subst}
 use mathlib.Core.Bool.{Bool, true, false, not, _||_, cond}
 use mathlib.Core.List.{List, [], _++_}
 use mathlib.Core.Option.{Option}
 use lib.Dec.{eqb, ltb}
 use lib.ListN.{length, take, length-append}
 use borrow.Author.Tests.{lt-ltb, ltb-true, ltb-false}
-use Rattle.choice.specs.Pick.{pick}
+use Rattle.choice.specs.Pick.{pick, pick-false}
+use Rattle.meaning.specs.Limits.{elementsNeeded, nodesNeeded}
+use Rattle.meaning.specs.Refusals.{shortRoom, unfinished, badLength, badStep}
+use Rattle.meaning.specs.Answer.{tooSmall}
+use Rattle.meaning.specs.Answer.Laws.{not-small}
 use Rattle.meaning.specs.Query.{Query}
 use Rattle.meaning.specs.Document.{count, finished}
 use Rattle.meaning.specs.Stream.{Event, document}
 use Rattle.meaning.specs.Standing.{listed}
 use Rattle.meaning.specs.Offering.{offeringAll}
-use Rattle.query.specs.declared.QueryAnswer.{QueryAnswer}
-use Rattle.query.specs.declared.QueryAnswer.the-variants.{Admitted, BadLength, BadStep}
 use Rattle.query.specs.Rules.{stepBytes, longest, wrongLength}
-use Rattle.query.specs.Answer.{Answer, admitted, refused, said, judged, ifWrong, answerTo}
+use Rattle.query.specs.Answer.{Answer, admitted, refused, judged, ifWrong, answerTo}
 use Rattle.query.specs.Decode.{decode}
-use Rattle.session.specs.declared.Session.{Session}
 use Rattle.session.specs.declared.Finish.{Finish}
 use Rattle.session.specs.declared.Finish.the-variants.{Refused, Ended}
+use Rattle.session.specs.declared.Start.{Start}
+use Rattle.session.specs.declared.Start.the-variants as started
+use Rattle.session.specs.declared.Begun.{Begun}
+use Rattle.session.specs.Begin.{said, answerOf, BeginGives}
 use Rattle.session.specs.Event.{finish}
-use Rattle.columns.specs.Right.{owedFinish, finish-right}
-use Rattle.promise.specs.Promise.{Of, sessionAfter}
+use Rattle.session.specs.Run.{Lent, lent}
+use Rattle.promise.specs.Promise.{Of, begin-answer, ended-is, opened-is, handed-is}
 use Rattle.lines.specs.Put.{Put}
-use Rattle.lines.specs.PutLaws.{put-taken}
+use Rattle.lines.specs.Put.Laws.{put-taken}
 use Rattle.lines.specs.Text.{linesOf, endLine, refusedAtLine, refusedLine}
 use Rattle.system.specs.declared.File.{File}
 use Rattle.system.specs.Marks.{FileOpened, FileClosed, ReadOver, WriteTold, ReadFull, received, nothing-yet, Delivered, delivered, none-yet}
@@ -46,32 +51,34 @@ use Rattle.pick.specs.Program.{finishLineOf, lastLineBy, owedOutputBy, o
 
 -- the last line
 
-finish-owed : (q : Query) (es : List Event) → finishLine (owedFinish q (document es)) (length es) ≡ finishLineOf q es
-unfolding owedFinish finishLineOf
-finish-owed q es = by (finished (document es))
-  where
-    by :
-        (b : Bool) →
-        finishLine (pick (not b) (Refused 8) (Ended (count (document es)) (length (listed q (document es))))) (length es)
-        ≡ pick b (endLine (length (listed q (document es)))) (refusedAtLine 8 (length es))
-    by true = unfold pick in refl
-    by false = unfold pick in refl
+finish-by :
+    (x : Bool) (k h n : ℕ) → finishLine (pick x (Ended k h) (Refused unfinished)) n ≡ pick x (endLine h) (refusedAtLine unfinished n)
+unfolding pick
+finish-by true k h n = refl
+finish-by false k h n = refl
+
+finish-owed : {b : List ℕ} {es : List Event} {l : Lent} → Of b es l → finishLine (finish (l .session)) (length es) ≡ finishLineOf (decode b) es
+unfolding finish finishLineOf
+finish-owed {b} {es} {l} o =
+    finish-by (l .session .ended) (l .session .opened) (l .session .handed) (length es)
+    ∙ ap₂ (λ (x : Bool) (h : ℕ). pick x (endLine h) (refusedAtLine unfinished (length es))) (ended-is o) (handed-is o)
 
 pub last-line-owed :
-    {b : List ℕ} {es : List Event} {s : Session} → Of b es s → (f : Finish) → f ≡ finish s → (taken r : ℕ) → taken ≡ length es →
+    {b : List ℕ} {es : List Event} {l : Lent} → Of b es l → (f : Finish) → f ≡ finish (l .session) → (taken r : ℕ) → taken ≡ length es →
     lastLine f taken r ≡ lastLineBy (refusalOf r) (decode b) es
-unfolding lastLineBy refusalOf sessionAfter
-last-line-owed {b} {es} {s} o f e taken zero t =
+unfolding lastLineBy refusalOf
+last-line-owed {b} {es} o f e taken zero t =
     ap (λ (n : ℕ). finishLine f n) t
-    ∙ ap (λ (g : Finish). finishLine g (length es)) (e ∙ ap finish (o .is) ∙ finish-right (decode b) (document es))
-    ∙ finish-owed (decode b) es
+    ∙ ap (λ (g : Finish). finishLine g (length es)) e
+    ∙ finish-owed o
 last-line-owed o f e taken (suc r) t =
     ap (λ (x : Bool). cond x (refusedAtLine (suc r) (taken + 1)) (finishLine f taken)) (lt-ltb 0 (suc r) (omega arith))
     ∙ ap (λ (n : ℕ). refusedAtLine (suc r) (n + 1)) t
 
 -- the last line for a stream that was worked on whole
 pub streamed-lined :
-    {b : List ℕ} {file : File} {s : State} → FileOpened eventsName file → FileClosed file → Streamed b file s → (f : Finish) → f ≡ finish (s .session) →
+    {b : List ℕ} {file : File} {s : State} {E N : List ℕ} → FileOpened eventsName file → FileClosed file → Streamed b file s E N → (f : Finish) →
+    f ≡ finish (s .session) →
     (text : List ℕ) (r : ℕ) → take r text ≡ lastLine f (s .taken) (s .refusal) → EventsLined b text r
 streamed-lined {b} {file} {s} op cl st f e text r line =
     record {
@@ -86,11 +93,12 @@ streamed-lined {b} {file} {s} op cl st f e text r line =
 
 -- the query's answer
 
-query-owed : (a : QueryAnswer) (qs es : List ℕ) → 0 < length (queryLine a) → queryLine a ≡ owedOutputBy (said a) qs es
+query-owed : (a : Start) (qs es : List ℕ) → 0 < length (queryLine a) → queryLine a ≡ owedOutputBy (said a) qs es
 unfolding owedOutputBy said
-query-owed Admitted qs es h = absurd (omega arith)
-query-owed BadLength qs es h = refl
-query-owed (BadStep k) qs es h = refl
+query-owed started.Begun qs es h = absurd (omega arith)
+query-owed started.ShortRoom qs es h = refl
+query-owed started.BadLength qs es h = refl
+query-owed (started.BadStep k) qs es h = refl
 
 refused-long : (n : ℕ) → 0 < length (refusedLine n)
 unfolding refusedLine
@@ -100,18 +108,27 @@ refused-at-long : (n k : ℕ) → 0 < length (refusedAtLine n k)
 unfolding refusedAtLine
 refused-at-long n k = omega arith
 
-query-silent : (a : QueryAnswer) → length (queryLine a) ≡ 0 → a ≡ Admitted
-query-silent Admitted h = refl
-query-silent BadLength h = absurd (omega (arith, refused-long 9))
-query-silent (BadStep k) h = absurd (omega (arith, refused-at-long 10 k))
+query-silent : (a : Start) → length (queryLine a) ≡ 0 → a ≡ started.Begun
+query-silent started.Begun h = refl
+query-silent started.ShortRoom h = absurd (omega (arith, refused-long shortRoom))
+query-silent started.BadLength h = absurd (omega (arith, refused-long badLength))
+query-silent (started.BadStep k) h = absurd (omega (arith, refused-at-long badStep k))
 
-not-admitted : (a : QueryAnswer) → 0 < length (queryLine a) → said a ≡ admitted → ⊥
+not-admitted : (a : Start) → 0 < length (queryLine a) → said a ≡ admitted → ⊥
 unfolding said
-not-admitted Admitted h e = omega arith
-not-admitted BadLength h e = let z : _≡_ {A = ℕ} 0 1 = cc in omega arith
-not-admitted (BadStep k) h e = let z : _≡_ {A = ℕ} 0 1 = cc in omega arith
+not-admitted started.Begun h e = omega arith
+not-admitted started.ShortRoom h e = let z : _≡_ {A = ℕ} 0 1 = cc in omega arith
+not-admitted started.BadLength h e = let z : _≡_ {A = ℕ} 0 1 = cc in omega arith
+not-admitted (started.BadStep k) h e = let z : _≡_ {A = ℕ} 0 1 = cc in omega arith
 
-module _ (query : List ℕ) (a : QueryAnswer) (checked : said a ≡ answerTo query) where
+-- with enough room begin answers the query
+pub begin-checked :
+    (query E N : List ℕ) (r : Begun) → elementsNeeded ≤ length E → nodesNeeded ≤ length N → BeginGives query E N r → said (r .answer) ≡ answerTo query
+unfolding answerOf
+begin-checked query E N r longE longN g =
+    begin-answer query E N r g ∙ pick-false (tooSmall (length E) (length N)) _ _ (not-small (length E) (length N) longE longN)
+
+module _ (query : List ℕ) (a : Start) (checked : said a ≡ answerTo query) where
   -- a refused query: its line is all that is owed
   pub refused-lined : (text text′ : List ℕ) (r : ℕ) → Put text 0 (queryLine a) text′ r → r ≤ length text → 0 < r → Lined query text′ r
   refused-lined text text′ r p fits put =
@@ -125,7 +142,7 @@ module _ (query : List ℕ) (a : QueryAnswer) (checked : said a ≡ answerTo que
       }
 
   module _ (text text′ : List ℕ) (r : ℕ) (p : Put text 0 (queryLine a) text′ r) (none-put : r ≤ 0) where
-    pub silent-admitted : a ≡ Admitted
+    pub silent-admitted : a ≡ started.Begun
     silent-admitted = query-silent a (omega (arith, p .end))
 
     -- an admitted query: the events' lines
@@ -152,7 +169,7 @@ or-true : (a : Bool) → (a || true) ≡ true
 or-true true = refl
 or-true false = refl
 
-long-refused : (qs : List ℕ) → 256 < length qs → answerTo qs ≡ refused 9
+long-refused : (qs : List ℕ) → 256 < length qs → answerTo qs ≡ refused badLength
 unfolding answerTo ifWrong
 long-refused qs h =
     let n : ℕ = length qs in

@@ -1,71 +1,61 @@
 -- A block of events, in the words of the meaning.
 --
+--   Enough l                 the room of l is not too small
 --   BlockProgress b es bs n out f     f is what the first n records of bs, offered one after the other with the buffer out, must come to
---   fed-progress                 what a block of events comes to (crate blocks, Fed) on a session that calls reach
+--   fed-progress             what a block of events comes to (crate session, Run) on a session and room that calls reach
+--   blockFed l bs out        the block of the whole records of bs
 --   then-fed                 TWO BLOCKS ONE AFTER THE OTHER ARE ONE STREAM: what was offered so far, and then a block of what is left
 --   fed-fed                  a block, and then a block of what it left, each with a buffer of its own
 --
 -- Assumes nothing.
 use Prim.Native.Nat.{ℕ, zero, suc, _+_, _*_, _/_, _≤_, _<_}
 use native.Mathlib.Omega.{arith}
-use mathlib.Core.Path.{_≡_, refl, sym, ap, _∙_, subst}
-use mathlib.Core.Bool.{Bool}
+use mathlib.Core.Path.{_≡_, refl, sym, ap, ap₂, _∙_, subst}
+use mathlib.Core.Bool.{Bool, true, false}
 use mathlib.Core.List.{List, _++_, append-nil}
 use mathlib.Core.Option.{Option, none, some}
-use lib.Dec.{ltb}
-use lib.ListN.{length, getD, take, drop, length-drop}
-use lib.Seq.{take-at, getD-drop}
-use borrow.Author.Tests.{ltb-true, ltb-false, le-ltb}
-use Rattle.choice.specs.Pick.{pick-known}
-use Rattle.meaning.specs.Limits.{roomNeeded}
-use Rattle.meaning.specs.Query.{Query}
-use Rattle.meaning.specs.Document.{Doc, count}
+use mir.Val.{boolByte}
+use lib.Dec.{eqb, ltb}
+use lib.ListN.{length, take, drop, length-drop}
+use lib.Seq.{take-at}
+use borrow.Author.Tests.{ne-eqb, ltb-true, ltb-false}
+use Rattle.choice.specs.Pick.{pick, pick-true, pick-false, pick-known}
+use Rattle.meaning.specs.Limits.{outputNeeded}
+use Rattle.meaning.specs.Limits.Laws.{node-limit-is}
 use Rattle.meaning.specs.Stream as Stream
 use Rattle.meaning.specs.Stream.{document}
-use Rattle.meaning.specs.Record.{eventOf}
-use Rattle.meaning.specs.Standing.{standings, listed}
-use Rattle.meaning.specs.Standing.Laws.{listed-within}
-use Rattle.meaning.specs.Demands.{length-standings}
-use Rattle.meaning.specs.Answer.{Call, Refusal, actIf, eventRefusals, refusals, lowestOr, lowest, yield, answerIf, answer, eventsOf, callEvents, afterIf, after, handedBy}
-use Rattle.meaning.specs.Answer.Laws.{act-document, call-listed}
-use Rattle.meaning.specs.Offering.{first, offering}
+use Rattle.meaning.specs.Standing.{listed}
+use Rattle.meaning.specs.Answer as meaning
+use Rattle.meaning.specs.Answer.{Call, tooSmall, refusals, first, yield, answerIf, answer, callEvents, afterIf, after, handedBy}
+use Rattle.meaning.specs.Answer.Laws.{room-enough, call-listed}
+use Rattle.meaning.specs.Answer.Bounds.{after-bounded, handed-within}
+use Rattle.meaning.specs.Offering.{offer, offering}
 use Rattle.meaning.specs.Offering.Laws.{one-record, refused-record}
 use Rattle.query.specs.Decode.{decode}
+use Rattle.records.specs.Write.{recordsOf, nodesIn, buffer}
+use Rattle.records.specs.Write.Laws.{length-records, Nodes, nodesIn-append, length-nodes}
+use Rattle.feed.specs.Fed.{Came, Fed, none as none-fed, one, andThen, fed}
 use Rattle.session.specs.declared.Session.{Session}
+use Rattle.session.specs.declared.Answer.{Answer}
 use Rattle.session.specs.declared.Answer.the-variants.{Refused, Taken}
-use Rattle.session.specs.Event.{Done, event}
-use Rattle.columns.specs.Hand.{buffer}
-use Rattle.columns.specs.Right.{theSession, owed}
-use Rattle.promise.specs.Promise.{Of, sessionAfter, event-owed, event-of}
-use Rattle.records.specs.Write.{recordsOf, nodesIn}
-use Rattle.records.specs.Write.Laws.{length-records, Nodes, nodesIn-append}
-use Rattle.blocks.specs.Fed.{Fed, none as none-fed, one, oneOf, andThen, follow, followed, fed, Single}
-use Rattle.blocks.specs.Step.Laws.{event-single}
+use Rattle.session.specs.Event.{Done, toldOf, event}
+use Rattle.session.specs.Run.{Lent, lent, refusalOf, givenOf, cameTo, eventAt}
+use Rattle.session.specs.Told.{told}
+use Rattle.promise.specs.Promise.{SameUsed, Of, leftBy, room-long, Given, event-owed}
+use Rattle.promise.specs.Theorem.Replies.{same, event-long}
+use Rattle.promise.specs.Theorem.Blocks.{left-is, used-back, refused-some}
 use Rattle.pick.specs.Progress.{Progress}
 use Rattle.pick.specs.Progress.Laws.{progress-none, progress-then}
 
-pub record BlockProgress (b : List ℕ) (es : List Stream.Event) (bs : List ℕ) (n : ℕ) (out : List ℕ) (f : Fed) : Type 0 where
-  pub offered : Progress b es bs (f .session) (f .taken) (f .refusal) (nodesIn (f .listed) (f .out))
+abbrev pub Enough : Lent → Type 0
+Enough l = tooSmall (length (l .elements)) (length (l .nodes)) ≡ false
+
+pub record BlockProgress (b : List ℕ) (es : List Stream.Event) (bs : List ℕ) (n : ℕ) (out : List ℕ) (f : Fed Lent) : Type 0 where
+  pub offered : Progress b es bs (f .seat) (f .taken) (f .refusal) (nodesIn (f .listed) (f .out))
+  pub enough : Enough (f .seat)
   -- only a whole record is refused; with room enough no block is left standing
   pub whole : (f .refusal ≡ 0 → ⊥) → 8 * f .taken + 8 ≤ length bs
-  pub some : 0 < n → 516 ≤ length out → f .refusal ≡ 0 → 0 < f .taken
-
--- room beyond what is needed changes no answer
-room-enough :
-    (q : Query) (d : Doc) (bytes : List ℕ) (room : ℕ) → 516 ≤ room →
-    lowest (refusals q d (Call.event bytes room)) ≡ lowest (refusals q d (Call.event bytes roomNeeded))
-unfolding refusals eventRefusals lowest
-room-enough q d bytes room h = ap (λ (b : Bool). lowestOr b 1 (lowest (others q d (eventOf bytes)))) (le-ltb room 516 h)
-  where
-    others : Query → Doc → Option Stream.Event → List Refusal
-    others q d e = drop 1 (eventRefusals q d e 0)
-
--- the numbers of listed nodes have four bytes
-news-small : (q : Query) (d : Doc) (k : ℕ) → count d ≤ 16777215 → Nodes (drop k (listed q d))
-unfolding listed
-news-small q d k h i =
-    let e : getD (drop k (listed q d)) i 0 ≡ getD (listed q d) (k + i) 0 = getD-drop k (listed q d) i 0 in
-    omega (arith, e, listed-within 1 (standings q d) (k + i), length-standings q d, h)
+  pub some : 0 < n → outputNeeded ≤ length out → f .refusal ≡ 0 → 0 < f .taken
 
 -- the list records of ns at the start of a buffer, and then others behind them
 nodes-both :
@@ -77,40 +67,44 @@ nodes-both ns out more k h =
     ∙ nodesIn-append ns more k h
 
 none-progress :
-    {b : List ℕ} {es : List Stream.Event} {s : Session} (bs out : List ℕ) (n : ℕ) → (0 < n → 516 ≤ length out → ⊥) → Of b es s →
-    BlockProgress b es bs n out (none-fed s out)
+    {b : List ℕ} {es : List Stream.Event} {l : Lent} (bs out : List ℕ) (n : ℕ) → (0 < n → outputNeeded ≤ length out → ⊥) → Enough l → Of b es l →
+    BlockProgress b es bs n out (none-fed l out)
 unfolding nodesIn
-none-progress bs out n idle o = record { offered = progress-none bs o; whole = λ z. absurd (z refl); some = λ p w z. absurd (idle p w) }
+none-progress bs out n idle e o =
+    record { offered = progress-none bs o; enough = e; whole = λ z. absurd (z refl); some = λ p w z. absurd (idle p w) }
 
 -- one event that was refused, or taken and followed by others
 
 module _ {b : List ℕ} {es : List Stream.Event} (bs out : List ℕ) (n : ℕ) (long : 8 * suc n ≤ length bs) where
   refused-progress :
-      (r : ℕ) → lowest (refusals (decode b) (document es) (first bs)) ≡ some r → (r ≡ 0 → ⊥) → (s : Session) → Of b es s →
-      BlockProgress b es bs (suc n) out (one (Refused r) s out)
-  unfolding nodesIn one offering
-  refused-progress r e positive s o =
+      (r : ℕ) → first (refusals (decode b) (document es) (offer bs)) ≡ some r → 0 < r → (l : Lent) → Enough l → Of b es l →
+      BlockProgress b es bs (suc n) out (one (record { refusal = r; given = 0; seat = l; out = out }))
+  unfolding nodesIn offering
+  refused-progress r e positive l enough o =
+      let none-taken : boolByte (eqb r 0) ≡ 0 = ap boolByte (ne-eqb r 0 (λ z. omega arith)) in
       record {
         offered =
             record {
               events = es;
               reached = o;
               within = omega arith;
-              accepted = refl;
+              accepted = ap (λ (k : ℕ). offering (decode b) k es bs) none-taken;
               left = λ z. omega arith;
-              stopped = λ z. refused-record (decode b) es bs r e;
+              stopped = λ z.
+                  ap (λ (k : ℕ). offering (decode b) 1 es (drop (8 * k) bs)) none-taken ∙ refused-record (decode b) es bs r e;
               listing = append-nil (listed (decode b) (document es));
             };
+        enough = enough;
         whole = λ z. omega arith;
-        some = λ p w z. absurd (positive z);
+        some = λ p w z. absurd (omega arith);
       }
 
-  module _ (e : lowest (refusals (decode b) (document es) (first bs)) ≡ none) (s : Session) (reached : Of b (after (decode b) es (first bs)) s) (ns : List ℕ)
-      (listing : listed (decode b) (document es) ++ ns ≡ listed (decode b) (document (after (decode b) es (first bs)))) (nodes : Nodes ns) where
-    once : Progress b es bs s 1 0 ns
+  module _ (e : first (refusals (decode b) (document es) (offer bs)) ≡ none) (l : Lent) (reached : Of b (after (decode b) es (offer bs)) l) (ns : List ℕ)
+      (listing : listed (decode b) (document es) ++ ns ≡ listed (decode b) (document (after (decode b) es (offer bs)))) (nodes : Nodes ns) where
+    once : Progress b es bs l 1 0 ns
     once =
         record {
-          events = after (decode b) es (first bs);
+          events = after (decode b) es (offer bs);
           reached = reached;
           within = omega arith;
           accepted = one-record (decode b) es bs e;
@@ -120,113 +114,176 @@ module _ {b : List ℕ} {es : List Stream.Event} (bs out : List ℕ) (n : ℕ) (
         }
 
     taken-progress :
-        (f : Fed) → BlockProgress b (after (decode b) es (first bs)) (drop 8 bs) n (drop (4 * length ns) (buffer ns out)) f →
-        BlockProgress b es bs (suc n) out (andThen (one (Taken (length ns)) s (buffer ns out)) f)
-    unfolding andThen one once
+        (f : Fed Lent) → BlockProgress b (after (decode b) es (offer bs)) (drop 8 bs) n (drop (4 * length ns) (buffer ns out)) f →
+        BlockProgress b es bs (suc n) out (andThen (one (record { refusal = 0; given = length ns; seat = l; out = buffer ns out })) f)
+    unfolding andThen once
     taken-progress f t =
         record {
           offered =
-              subst (Progress b es bs (f .session) (1 + f .taken) (f .refusal)) (sym (nodes-both ns out (f .out) (f .listed) nodes))
+              subst (Progress b es bs (f .seat) (1 + f .taken) (f .refusal)) (sym (nodes-both ns out (f .out) (f .listed) nodes))
               (progress-then once (t .offered));
+          enough = t .enough;
           whole = λ z. omega (arith, t .whole z, length-drop 8 bs);
           some = λ p w z. omega arith;
         }
 
--- one event, by the lowest refusal that applies, and what comes next
+-- one event, by the first refusal that applies, and what comes next
 
-module _ {b : List ℕ} {es : List Stream.Event} {s : Session} (o : Of b es s) (n : ℕ) (bs out : List ℕ) (long : 8 * suc n ≤ length bs)
-    (room : 516 ≤ length out)
-    (rest : (es′ : List Stream.Event) (s′ : Session) (out′ : List ℕ) → Of b es′ s′ → BlockProgress b es′ (drop 8 bs) n out′ (fed n s′ (drop 8 bs) out′)) where
+module _ {b : List ℕ} {es : List Stream.Event} {l : Lent} (o : Of b es l) (enough : Enough l) (n : ℕ) (bs out : List ℕ) (long : 8 * suc n ≤ length bs)
+    (wide : outputNeeded ≤ length out)
+    (rest : (es′ : List Stream.Event) (l′ : Lent) (out′ : List ℕ) → Of b es′ l′ → Enough l′ →
+    BlockProgress b es′ (drop 8 bs) n out′ (fed eventAt n l′ (drop 8 bs) out′)) where
+  abbrev used : Enough l → SameUsed l (l .elements) (l .nodes)
+  used x = used-back (l .session) (l .elements) (l .nodes)
+
+  abbrev c : Call
+  c = Call.event (take 8 bs) (record { out = length out; elements = length (l .elements); nodes = length (l .nodes) })
+
+  abbrev x : Option ℕ
+  x = first (refusals (decode b) (document es) (offer bs))
+
+  same-first : first (refusals (decode b) (document es) c) ≡ x
+  same-first =
+      let h = room-long (l .elements) (l .nodes) enough in
+      room-enough (decode b) (document es) (take 8 bs) (record { out = length out; elements = length (l .elements); nodes = length (l .nodes) }) wide (h .0)
+      (h .1)
+
+  abbrev followed : Came Lent → Fed Lent
+  followed w = pick (eqb (w .refusal) 0) (andThen (one w) (fed eventAt n (w .seat) (drop 8 bs) (drop (4 * w .given) (w .out)))) (one w)
+
+  module _ (a : Answer) (t : Session) (A B out′ : List ℕ)
+      (is : _≡_ {A = Done} (record { answer = a; session = t; elements = A; nodes = B; out = out′ })
+      (event (l .session) (take 8 bs) (l .elements) (l .nodes) out)) where
+    abbrev done : Done
+    done = record { answer = a; session = t; elements = A; nodes = B; out = out′ }
+
+    owed : Given o (take 8 bs) (l .elements) (l .nodes) out used x done
+    owed =
+        subst (λ (y : Option ℕ). Given o (take 8 bs) (l .elements) (l .nodes) out used y done) same-first
+        (subst (Given o (take 8 bs) (l .elements) (l .nodes) out used _) (sym is) (event-owed o (take 8 bs) (l .elements) (l .nodes) out used))
+
+    still-enough : Enough (lent t A B)
+    still-enough =
+        let h = event-long (l .session) (take 8 bs) (l .elements) (l .nodes) out (record { answer = a; session = t }) A B out′ (ap (λ (d : Done). toldOf d) is) in
+        ap₂ tooSmall (h .0) (h .1) ∙ enough
+
+  refused-next :
+      (m : ℕ) (t : Session) (A B out′ : List ℕ) →
+      _≡_ {A = Done} (record { answer = Refused m; session = t; elements = A; nodes = B; out = out′ })
+      (event (l .session) (take 8 bs) (l .elements) (l .nodes) out) →
+      (y : Option ℕ) → x ≡ y → meaning.refused m ≡ answerIf y (yield (decode b) (document es) c) →
+      BlockProgress b es bs (suc n) out (one (record { refusal = m; given = 0; seat = lent t A B; out = out′ }))
+  unfolding answerIf yield
+  refused-next m t A B out′ is none e told-so = let z : _≡_ {A = ℕ} 0 1 = cc in absurd (omega arith)
+  refused-next m t A B out′ is (some r) e told-so =
+      let k : m ≡ r = cc in
+      let back =
+      same (l .session) (take 8 bs) (l .elements) (l .nodes) out (record { answer = Refused m; session = t }) A B out′ (ap (λ (d : Done). toldOf d) is)
+      .refused-same m refl in
+      let positive : 0 < m = refused-some (l .session) (take 8 bs) (l .elements) (l .nodes) out m (sym (ap (λ (d : Done). d .answer) is)) in
+      let seat-is : lent t A B ≡ l = λ i. lent (back .0 i) (back .1 .0 i) (back .1 .1 .0 i) in
+      subst (λ (w : Came Lent). BlockProgress b es bs (suc n) out (one w))
+      (sym (λ i. record { refusal = m; given = 0; seat = seat-is i; out = back .1 .1 .1 i }))
+      (refused-progress bs out n long m (e ∙ ap some (sym k)) positive l enough o)
+
   abbrev news : List ℕ
-  news = drop (length (listed (decode b) (document es))) (listed (decode b) (actIf (eventOf (take 8 bs)) (document es)))
+  news = handedBy (answer (decode b) es c)
 
-  abbrev next : Session → List ℕ → Fed
-  next t = fed n t (drop 8 bs)
+  news-small : Nodes news
+  news-small i = omega (arith, node-limit-is, handed-within (decode b) es c i, after-bounded (decode b) es c (o .bounds) .nodes)
 
-  owed-so : event s (take 8 bs) out ≡ owed (decode b) (document es) (eventOf (take 8 bs)) out (lowest (refusals (decode b) (document es) (first bs)))
-  owed-so =
-      event-owed o (take 8 bs) out
-      ∙ ap (owed (decode b) (document es) (eventOf (take 8 bs)) out) (room-enough (decode b) (document es) (take 8 bs) (length out) room)
-
-  after-so : after (decode b) es (Call.event (take 8 bs) (length out)) ≡ after (decode b) es (first bs)
+  after-so : after (decode b) es c ≡ after (decode b) es (offer bs)
   unfolding after callEvents
-  after-so =
-      ap (λ (l : Option ℕ). afterIf l es (eventsOf (eventOf (take 8 bs)))) (room-enough (decode b) (document es) (take 8 bs) (length out) room)
+  after-so = ap (λ (y : Option ℕ). afterIf y es (callEvents c)) same-first
 
-  module _ (l : lowest (refusals (decode b) (document es) (first bs)) ≡ none) where
-    document-so : document (after (decode b) es (first bs)) ≡ actIf (eventOf (take 8 bs)) (document es)
-    unfolding after callEvents afterIf
-    document-so = ap (λ (x : Option ℕ). document (afterIf x es (eventsOf (eventOf (take 8 bs))))) l ∙ sym (act-document es (eventOf (take 8 bs)))
+  after-none : x ≡ none → afterIf none es (callEvents c) ≡ after (decode b) es c
+  unfolding after
+  after-none e = ap (λ (y : Option ℕ). afterIf y es (callEvents c)) (sym (same-first ∙ e))
 
-    listing-so : listed (decode b) (document es) ++ news ≡ listed (decode b) (document (after (decode b) es (first bs)))
-    unfolding answer answerIf yield handedBy
-    listing-so =
-        ap (λ (x : Option ℕ). listed (decode b) (document es) ++ handedBy (answerIf x (yield (decode b) (document es) (first bs)))) (sym l)
-        ∙ call-listed (decode b) es (first bs)
+  taken-next :
+      (k : ℕ) (t : Session) (A B out′ : List ℕ) →
+      _≡_ {A = Done} (record { answer = Taken k; session = t; elements = A; nodes = B; out = out′ })
+      (event (l .session) (take 8 bs) (l .elements) (l .nodes) out) →
+      (y : Option ℕ) → x ≡ y → meaning.taken (nodesIn k out′) ≡ answerIf y (yield (decode b) (document es) c) →
+      out′ ≡ buffer (handedBy (answerIf y (yield (decode b) (document es) c))) out →
+      Of b (afterIf y es (callEvents c)) (leftBy l (l .elements) (l .nodes) t A B) →
+      BlockProgress b es bs (suc n) out
+      (andThen (one (record { refusal = 0; given = k; seat = lent t A B; out = out′ }))
+      (fed eventAt n (lent t A B) (drop 8 bs) (drop (4 * k) out′)))
+  unfolding answerIf handedBy
+  taken-next k t A B out′ is (some r) e told-so written next = let z : _≡_ {A = ℕ} 0 1 = cc in absurd (omega arith)
+  taken-next k t A B out′ is none e told-so written next =
+      let given-so : answer (decode b) es c ≡ yield (decode b) (document es) c =
+      unfold answer in ap (λ (y : Option ℕ). answerIf y (yield (decode b) (document es) c)) (same-first ∙ e) in
+      let is-news : handedBy (yield (decode b) (document es) c) ≡ news = ap handedBy (sym given-so) in
+      let many : k ≡ length news =
+      sym (length-nodes k out′) ∙ ap (λ (a : meaning.Answer). length (handedBy a)) told-so ∙ ap length is-news in
+      let filled : out′ ≡ buffer news out = written ∙ ap (λ (ns : List ℕ). buffer ns out) is-news in
+      let then-so : afterIf none es (callEvents c) ≡ after (decode b) es (offer bs) = after-none e ∙ after-so in
+      let reached : Of b (after (decode b) es (offer bs)) (lent t A B) =
+      subst (λ (fs : List Stream.Event). Of b fs (lent t A B)) then-so
+      (subst (Of b (afterIf none es (callEvents c))) (left-is l (l .elements) (l .nodes) t A B enough) next) in
+      subst
+      (λ (w : Came Lent).
+      BlockProgress b es bs (suc n) out (andThen (one w) (fed eventAt n (lent t A B) (drop 8 bs) (drop (4 * w .given) (w .out)))))
+      (sym (λ i. record { refusal = 0; given = many i; seat = lent t A B; out = filled i }))
+      (taken-progress bs out n long e (lent t A B) reached news
+      (call-listed (decode b) es c ∙ ap (λ (fs : List Stream.Event). listed (decode b) (document fs)) after-so) news-small _
+      (rest (after (decode b) es (offer bs)) (lent t A B) (drop (4 * length news) (buffer news out)) reached (still-enough (Taken k) t A B out′ is)))
 
-  next-progress : (x : Option ℕ) → lowest (refusals (decode b) (document es) (first bs)) ≡ x →
-      event s (take 8 bs) out ≡ owed (decode b) (document es) (eventOf (take 8 bs)) out x →
-      BlockProgress b es bs (suc n) out (followed (event s (take 8 bs) out) next)
-  unfolding owed follow one
-  next-progress (some r) l e =
-      let single : Single (one (Refused r) (theSession (decode b) (document es)) out) =
-      subst (λ (d : Done). Single (oneOf d)) e (event-single s (take 8 bs) out) in
-      subst (λ (d : Done). BlockProgress b es bs (suc n) out (followed d next)) (sym e)
-      (refused-progress bs out n long r l (λ z. let w : _≡_ {A = ℕ} 0 1 = single .counted z in omega arith) (theSession (decode b) (document es))
-      (subst (Of b es) (o .is ∙ unfold sessionAfter in refl) o))
-  next-progress none l e =
-      let d : Done = event s (take 8 bs) out in
-      let reached : Of b (after (decode b) es (first bs)) (theSession (decode b) (actIf (eventOf (take 8 bs)) (document es))) =
-      subst (λ (fs : List Stream.Event). Of b fs (theSession (decode b) (actIf (eventOf (take 8 bs)) (document es)))) after-so
-      (subst (Of b (after (decode b) es (Call.event (take 8 bs) (length out)))) (ap (λ (d : Done). d .session) e)
-      (event-of o (take 8 bs) out (record { answer = d .answer; session = d .session }) (d .out) refl)) in
-      let few : count (actIf (eventOf (take 8 bs)) (document es)) ≤ 16777215 =
-      subst (λ (d : Doc). count d ≤ 16777215) (document-so l) (reached .bounds .nodes) in
-      subst (λ (d : Done). BlockProgress b es bs (suc n) out (followed d next)) (sym e)
-      (taken-progress bs out n long l (theSession (decode b) (actIf (eventOf (take 8 bs)) (document es))) reached news (listing-so l)
-      (news-small (decode b) (actIf (eventOf (take 8 bs)) (document es)) (length (listed (decode b) (document es))) few) _
-      (rest (after (decode b) es (first bs)) (theSession (decode b) (actIf (eventOf (take 8 bs)) (document es))) _ reached))
+  next-progress :
+      (a : Answer) (t : Session) (A B out′ : List ℕ) →
+      _≡_ {A = Done} (record { answer = a; session = t; elements = A; nodes = B; out = out′ })
+      (event (l .session) (take 8 bs) (l .elements) (l .nodes) out) →
+      BlockProgress b es bs (suc n) out (followed (cameTo (record { answer = a; session = t; elements = A; nodes = B; out = out′ })))
+  unfolding refusalOf givenOf told
+  next-progress (Refused m) t A B out′ is =
+      let positive : 0 < m = refused-some (l .session) (take 8 bs) (l .elements) (l .nodes) out m (sym (ap (λ (d : Done). d .answer) is)) in
+      subst (BlockProgress b es bs (suc n) out) (sym (pick-false (eqb m 0) _ _ (ne-eqb m 0 (λ z. omega arith))))
+      (refused-next m t A B out′ is x refl (owed (Refused m) t A B out′ is .answered))
+  next-progress (Taken k) t A B out′ is =
+      let w = owed (Taken k) t A B out′ is in
+      subst (BlockProgress b es bs (suc n) out) (sym (pick-true true _ _ refl))
+      (taken-next k t A B out′ is x refl (w .answered) (w .written) (w .next))
 
 pub fed-progress :
-    {b : List ℕ} {es : List Stream.Event} {s : Session} (n : ℕ) (bs out : List ℕ) → Of b es s → 8 * n ≤ length bs → BlockProgress b es bs n out (fed n s bs out)
-unfolding fed
-fed-progress zero bs out o h = none-progress bs out 0 (λ p w. omega arith) o
-fed-progress {b} {es} {s} (suc n) bs out o h =
-    pick-known (BlockProgress b es bs (suc n) out) (ltb (length out) 516) _ _
-    (λ t. none-progress bs out (suc n) (λ p w. omega (arith, ltb-true (length out) 516 t)) o)
+    {b : List ℕ} {es : List Stream.Event} {l : Lent} (n : ℕ) (bs out : List ℕ) → Of b es l → Enough l → 8 * n ≤ length bs →
+    BlockProgress b es bs n out (fed eventAt n l bs out)
+unfolding fed eventAt
+fed-progress zero bs out o e h = none-progress bs out 0 (λ p w. omega arith) e o
+fed-progress {b} {es} {l} (suc n) bs out o e h =
+    pick-known (BlockProgress b es bs (suc n) out) (ltb (length out) outputNeeded) _ _
+    (λ t. none-progress bs out (suc n) (λ p w. omega (arith, ltb-true (length out) outputNeeded t)) e o)
     (λ t.
-    next-progress o n bs out h (ltb-false (length out) 516 t)
-    (λ es′ s′ out′ o′. fed-progress n (drop 8 bs) out′ o′ (omega (arith, length-drop 8 bs)))
-    (lowest (refusals (decode b) (document es) (first bs))) refl
-    (owed-so o n bs out h (ltb-false (length out) 516 t) (λ es′ s′ out′ o′. fed-progress n (drop 8 bs) out′ o′ (omega (arith, length-drop 8 bs)))))
+    next-progress o e n bs out h (ltb-false (length out) outputNeeded t)
+    (λ es′ l′ out′ o′ e′. fed-progress n (drop 8 bs) out′ o′ e′ (omega (arith, length-drop 8 bs)))
+    (event (l .session) (take 8 bs) (l .elements) (l .nodes) out .answer) _ _ _ _ refl)
 
 -- TWO BLOCKS ONE AFTER THE OTHER ARE ONE STREAM
 
--- the block of the whole records of some bytes
-abbrev pub blockFed : Session → List ℕ → List ℕ → Fed
-blockFed s bs out = fed (length bs / 8) s bs out
+abbrev pub blockFed : Lent → List ℕ → List ℕ → Fed Lent
+blockFed l bs out = fed eventAt (length bs / 8) l bs out
 
 pub then-fed :
-    {b : List ℕ} {es : List Stream.Event} {bs : List ℕ} {s : Session} {t : ℕ} {ns : List ℕ} → Progress b es bs s t 0 ns → (rest out : List ℕ) →
+    {b : List ℕ} {es : List Stream.Event} {bs : List ℕ} {l : Lent} {t : ℕ} {ns : List ℕ} → Progress b es bs l t 0 ns → Enough l → (rest out : List ℕ) →
     rest ≡ drop (8 * t) bs →
-    Progress b es bs (blockFed s rest out .session) (t + blockFed s rest out .taken) (blockFed s rest out .refusal)
-    (ns ++ nodesIn (blockFed s rest out .listed) (blockFed s rest out .out))
-then-fed {b} {s = s} o rest out e =
-    let f : Fed = blockFed s rest out in
+    Progress b es bs (blockFed l rest out .seat) (t + blockFed l rest out .taken) (blockFed l rest out .refusal)
+    (ns ++ nodesIn (blockFed l rest out .listed) (blockFed l rest out .out))
+then-fed {b} {l = l} o enough rest out e =
+    let f : Fed Lent = blockFed l rest out in
     progress-then o
-    (subst (λ (x : List ℕ). Progress b (o .events) x (f .session) (f .taken) (f .refusal) (nodesIn (f .listed) (f .out))) e
-    (fed-progress (length rest / 8) rest out (o .reached) (omega arith) .offered))
+    (subst (λ (x : List ℕ). Progress b (o .events) x (f .seat) (f .taken) (f .refusal) (nodesIn (f .listed) (f .out))) e
+    (fed-progress (length rest / 8) rest out (o .reached) enough (omega arith) .offered))
 
 pub fed-fed :
-    {b : List ℕ} {es : List Stream.Event} {s : Session} (bs out out′ : List ℕ) → Of b es s → (f : Fed) → f ≡ blockFed s bs out → f .refusal ≡ 0 →
-    (g : Fed) → g ≡ blockFed (f .session) (drop (8 * f .taken) bs) out′ →
-    Progress b es bs (g .session) (f .taken + g .taken) (g .refusal) (nodesIn (f .listed) (f .out) ++ nodesIn (g .listed) (g .out))
-fed-fed {b} {es} {s} bs out out′ o f ef z g eg =
-    let first-block : Progress b es bs (f .session) (f .taken) (f .refusal) (nodesIn (f .listed) (f .out)) =
-    subst (λ (x : Fed). Progress b es bs (x .session) (x .taken) (x .refusal) (nodesIn (x .listed) (x .out))) (sym ef)
-    (fed-progress (length bs / 8) bs out o (omega arith) .offered) in
-    let unrefused : Progress b es bs (f .session) (f .taken) 0 (nodesIn (f .listed) (f .out)) =
-    subst (λ (r : ℕ). Progress b es bs (f .session) (f .taken) r (nodesIn (f .listed) (f .out))) z first-block in
+    {b : List ℕ} {es : List Stream.Event} {l : Lent} (bs out out′ : List ℕ) → Of b es l → Enough l → (f : Fed Lent) → f ≡ blockFed l bs out →
+    f .refusal ≡ 0 → (g : Fed Lent) → g ≡ blockFed (f .seat) (drop (8 * f .taken) bs) out′ →
+    Progress b es bs (g .seat) (f .taken + g .taken) (g .refusal) (nodesIn (f .listed) (f .out) ++ nodesIn (g .listed) (g .out))
+fed-fed {b} {es} {l} bs out out′ o enough f ef z g eg =
+    let whole : BlockProgress b es bs (length bs / 8) out f =
+    subst (BlockProgress b es bs (length bs / 8) out) (sym ef) (fed-progress (length bs / 8) bs out o enough (omega arith)) in
+    let unrefused : Progress b es bs (f .seat) (f .taken) 0 (nodesIn (f .listed) (f .out)) =
+    subst (λ (r : ℕ). Progress b es bs (f .seat) (f .taken) r (nodesIn (f .listed) (f .out))) z (whole .offered) in
     subst
-    (λ (x : Fed). Progress b es bs (x .session) (f .taken + x .taken) (x .refusal) (nodesIn (f .listed) (f .out) ++ nodesIn (x .listed) (x .out)))
-    (sym eg) (then-fed unrefused (drop (8 * f .taken) bs) out′ refl)
+    (λ (x : Fed Lent). Progress b es bs (x .seat) (f .taken + x .taken) (x .refusal) (nodesIn (f .listed) (f .out) ++ nodesIn (x .listed) (x .out)))
+    (sym eg) (then-fed unrefused (whole .enough) (drop (8 * f .taken) bs) out′ refl)

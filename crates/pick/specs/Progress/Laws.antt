@@ -7,7 +7,7 @@
 --   progress-all, progress-stopped     all is taken, or one was refused: what offering all of the bytes comes to
 --   progress-same        where a whole record was refused, what follows changes nothing
 --   progress-count       each taken record is an event
---   progress-few         no more than 33,554,430 events are accepted
+--   progress-few         no more than two events for each node that may be opened are accepted
 --
 -- Assumes nothing.
 use Prim.Native.Nat.{ℕ, _+_, _-_, _*_, _/_, _≤_, _<_}
@@ -18,16 +18,17 @@ use mathlib.Core.List.{List, [], _++_, append-nil, append-assoc}
 use mathlib.Core.Option.{none, some}
 use lib.ListN.{length, drop, length-append, length-drop}
 use lib.Seq.{drop-drop}
+use Rattle.meaning.specs.Limits.{nodeLimit}
 use Rattle.meaning.specs.Stream.{Event, document}
 use Rattle.meaning.specs.Standing.{listed}
 use Rattle.meaning.specs.Offering.{offering, offeringAll}
 use Rattle.meaning.specs.Offering.Laws.{offering-then, offering-stopped, offering-more, offering-short, length-offered, most-events}
 use Rattle.query.specs.Decode.{decode}
-use Rattle.session.specs.declared.Session.{Session}
+use Rattle.session.specs.Run.{Lent}
 use Rattle.promise.specs.Promise.{Of}
 use Rattle.pick.specs.Progress.{Progress}
 
-pub progress-none : {b : List ℕ} {es : List Event} {s : Session} (bs : List ℕ) → Of b es s → Progress b es bs s 0 0 []
+pub progress-none : {b : List ℕ} {es : List Event} {l : Lent} (bs : List ℕ) → Of b es l → Progress b es bs l 0 0 []
 unfolding offering
 progress-none {b} {es} bs o =
     record {
@@ -40,10 +41,10 @@ progress-none {b} {es} bs o =
       listing = append-nil (listed (decode b) (document es));
     }
 
-module _ {b : List ℕ} {es : List Event} {bs : List ℕ} {s : Session} {t : ℕ} {ns : List ℕ} (o : Progress b es bs s t 0 ns) where
+module _ {b : List ℕ} {es : List Event} {bs : List ℕ} {l : Lent} {t : ℕ} {ns : List ℕ} (o : Progress b es bs l t 0 ns) where
   pub progress-then :
-      {s′ : Session} {t′ r : ℕ} {ns′ : List ℕ} → Progress b (o .events) (drop (8 * t) bs) s′ t′ r ns′ → Progress b es bs s′ (t + t′) r (ns ++ ns′)
-  progress-then {s′} {t′} {r} {ns′} p =
+      {l′ : Lent} {t′ r : ℕ} {ns′ : List ℕ} → Progress b (o .events) (drop (8 * t) bs) l′ t′ r ns′ → Progress b es bs l′ (t + t′) r (ns ++ ns′)
+  progress-then {l′} {t′} {r} {ns′} p =
       let at : 8 * t + 8 * t′ ≡ 8 * (t + t′) = omega arith in
       let rest : drop (8 * t′) (drop (8 * t) bs) ≡ drop (8 * (t + t′)) bs = drop-drop (8 * t′) (8 * t) bs ∙ ap (λ (k : ℕ). drop k bs) at in
       record {
@@ -59,7 +60,7 @@ module _ {b : List ℕ} {es : List Event} {bs : List ℕ} {s : Session} {t : ℕ
             ∙ p .listing;
       }
 
-  pub progress-more : (more : List ℕ) → Progress b es (bs ++ more) s t 0 ns
+  pub progress-more : (more : List ℕ) → Progress b es (bs ++ more) l t 0 ns
   progress-more more =
       record {
         events = o .events;
@@ -72,7 +73,7 @@ module _ {b : List ℕ} {es : List Event} {bs : List ℕ} {s : Session} {t : ℕ
       }
 
   -- "Leftover bytes under 8 are a bad record."
-  pub progress-short : 8 * t < length bs → length bs < 8 * t + 8 → Progress b es bs s t 2 ns
+  pub progress-short : 8 * t < length bs → length bs < 8 * t + 8 → Progress b es bs l t 2 ns
   progress-short beyond few =
       record {
         events = o .events;
@@ -86,7 +87,7 @@ module _ {b : List ℕ} {es : List Event} {bs : List ℕ} {s : Session} {t : ℕ
 
 -- the whole of the bytes
 
-module _ {b bs : List ℕ} {s : Session} {t r : ℕ} {ns : List ℕ} (o : Progress b [] bs s t r ns) where
+module _ {b bs : List ℕ} {l : Lent} {t r : ℕ} {ns : List ℕ} (o : Progress b [] bs l t r ns) where
   pub progress-all : r ≡ 0 → length bs ≤ 8 * t → offeringAll (decode b) bs ≡ record { events = o .events; refusal = none }
   progress-all z h =
       let n : (length bs + 7) / 8 ≡ t = omega (arith, o .within) in
@@ -111,5 +112,5 @@ module _ {b bs : List ℕ} {s : Session} {t r : ℕ} {ns : List ℕ} (o : Progre
   pub progress-count : length (o .events) ≡ t
   progress-count = length-offered (decode b) t [] (o .events) bs (o .accepted) ∙ zero-add t
 
-  pub progress-few : t ≤ 33554430
+  pub progress-few : t ≤ 2 * nodeLimit
   progress-few = omega (arith, progress-count, most-events (decode b) (o .events) (o .reached .stream) (o .reached .bounds))

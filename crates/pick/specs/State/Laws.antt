@@ -15,9 +15,11 @@ use lib.ListN.{length, take, drop, length-take, length-drop}
 use lib.Seq.{take-add, drop-drop, length-take-le, length-sets}
 use borrow.Author.Tests.{eq-eqb, ne-eqb}
 use Rattle.choice.specs.Pick.{pick-yes, pick-no, never}
-use Rattle.blocks.specs.Fed.{Fed}
+use Rattle.feed.specs.Fed.{Fed}
+use Rattle.session.specs.declared.Ran.{Ran}
+use Rattle.session.specs.Run.{Lent, ran}
 use Rattle.lines.specs.Put.{Put}
-use Rattle.lines.specs.PutLaws.{put-taken}
+use Rattle.lines.specs.Put.Laws.{put-taken}
 use Rattle.lines.specs.Text.{linesOf, nodesIn}
 use Rattle.system.specs.declared.File.{File}
 use Rattle.system.specs.Marks.{WriteTold, ReadAt}
@@ -96,36 +98,37 @@ module _ (file : File) (s : State) (input moved-down input′ : List ℕ) (r : �
 
 -- a block of events
 
-module _ (s : State) (input out : List ℕ) (f : Fed) (text text′ : List ℕ) (k : ℕ) (written : Bool) (w : UnreadWithin s (length input))
-    (block : f ≡ blockOf s input out) (few : 8 * f .taken ≤ length (unread s input)) (put : Put text 0 (linesOf (nodesIn (f .listed) (f .out))) text′ k)
-    (fits : k ≤ length text′) (handed : WriteTold (take k text′) written) where
-  past : take (s .end - (s .from + 8 * f .taken)) (drop (s .from + 8 * f .taken) input) ≡ drop (8 * f .taken) (unread s input)
+module _ (s : State) (input E N out : List ℕ) (r : Ran) (E′ N′ out′ text text′ : List ℕ) (k : ℕ) (written : Bool) (w : UnreadWithin s (length input))
+    (block : ran r E′ N′ out′ ≡ blockOf s input E N out) (few : 8 * r .taken ≤ length (unread s input))
+    (put : Put text 0 (linesOf (nodesIn (r .listed) out′)) text′ k) (fits : k ≤ length text′) (handed : WriteTold (take k text′) written) where
+  past : take (s .end - (s .from + 8 * r .taken)) (drop (s .from + 8 * r .taken) input) ≡ drop (8 * r .taken) (unread s input)
   past =
-      let n : s .end - (s .from + 8 * f .taken) ≡ s .end - s .from - 8 * f .taken = omega arith in
-      ap₂ (λ (m : ℕ) (x : List ℕ). take m x) n (sym (drop-drop (8 * f .taken) (s .from) input))
-      ∙ sym (drop-take (8 * f .taken) (s .end - s .from) (drop (s .from) input))
+      let n : s .end - (s .from + 8 * r .taken) ≡ s .end - s .from - 8 * r .taken = omega arith in
+      ap₂ (λ (m : ℕ) (x : List ℕ). take m x) n (sym (drop-drop (8 * r .taken) (s .from) input))
+      ∙ sym (drop-take (8 * r .taken) (s .end - s .from) (drop (s .from) input))
 
   pub worked-so :
-      Worked s input out
+      Worked s input E N out
       (record {
-        session = f .session;
-        from = s .from + 8 * f .taken;
+        session = r .session;
+        from = s .from + 8 * r .taken;
         end = s .end;
-        taken = s .taken + f .taken;
-        refusal = f .refusal;
+        taken = s .taken + r .taken;
+        refusal = r .refusal;
         ended = false;
         written = written;
       })
+      E′ N′
   worked-so =
-      let room : length text′ ≡ length text = ap length (put .text) ∙ length-sets text 0 (linesOf (nodesIn (f .listed) (f .out))) in
+      let room : length text′ ≡ length text = ap length (put .text) ∙ length-sets text 0 (linesOf (nodesIn (r .listed) out′)) in
       record {
-        session-so = ap (λ (g : Fed). g .session) block;
-        taken-so = ap (λ (g : Fed). s .taken + g .taken) block;
-        refusal-so = ap (λ (g : Fed). g .refusal) block;
-        left = past ∙ ap (λ (g : Fed). drop (8 * g .taken) (unread s input)) block;
+        seat-so = ap (λ (g : Fed Lent). g .seat) block;
+        taken-so = ap (λ (g : Fed Lent). s .taken + g .taken) block;
+        refusal-so = ap (λ (g : Fed Lent). g .refusal) block;
+        left = past ∙ ap (λ (g : Fed Lent). drop (8 * g .taken) (unread s input)) block;
         within = record { forward = omega (arith, few, part-short input (s .from) (s .end), w .forward); inside = w .inside };
         not-ended = refl;
         handed =
             subst (λ (l : List ℕ). WriteTold l written)
-            (put-taken put (omega arith) ∙ ap (λ (g : Fed). linesOf (nodesIn (g .listed) (g .out))) block) handed;
+            (put-taken put (omega arith) ∙ ap (λ (g : Fed Lent). linesOf (nodesIn (g .listed) (g .out))) block) handed;
       }

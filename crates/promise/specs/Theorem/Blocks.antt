@@ -78,11 +78,11 @@ none-singly l n es E N out used why =
     }
 
 -- room that was just given back has the records in use
-used-back : (s : Session) (A B : List ℕ) → SameUsed (lent s A B) A B
+pub used-back : (s : Session) (A B : List ℕ) → SameUsed (lent s A B) A B
 used-back s A B = record { elements = refl; nodes = refl }
 
 -- room that was enough is what is left
-left-is : (l : Lent) (E N : List ℕ) (t : Session) (A B : List ℕ) → tooSmall (length E) (length N) ≡ false → leftBy l E N t A B ≡ lent t A B
+pub left-is : (l : Lent) (E N : List ℕ) (t : Session) (A B : List ℕ) → tooSmall (length E) (length N) ≡ false → leftBy l E N t A B ≡ lent t A B
 unfolding leftBy
 left-is l E N t A B enough = pick-false (tooSmall (length E) (length N)) _ (lent t A B) enough
 
@@ -90,7 +90,7 @@ left-is l E N t A B enough = pick-false (tooSmall (length E) (length N)) _ (lent
 Numbered : Done → Type 0
 Numbered d = (x : ℕ) → d .answer ≡ Refused x → 0 < x
 
-refused-some : (s : Session) (bytes E N out : List ℕ) (x : ℕ) → event s bytes E N out .answer ≡ Refused x → 0 < x
+pub refused-some : (s : Session) (bytes E N out : List ℕ) (x : ℕ) → event s bytes E N out .answer ≡ Refused x → 0 < x
 unfolding event within settled Numbered
 refused-some s bytes E N out =
     pick-either Numbered _ _ _ (λ x e. let z : x ≡ 1 = cc in omega arith)
