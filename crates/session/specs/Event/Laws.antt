@@ -2,19 +2,20 @@
 --
 --   with-parts                         the numbers one by one
 --   within-refused, within-taken       an event that is refused, and one that is taken, on the room that is needed
---   event-short, event-small, event-parts       refusal 1; refusal 15; any other answer, by the parts of the room that were lent on
+--   event-lent, lent-small             refusals 1 and 15, by the lengths of what is lent; with enough of a buffer it is 15
+--   event-parts                        any other answer, by the parts of the room that were lent on
 --   event-is, finish-is                a result that the promise allows is the model's
 --   event-one, finish-one              two results that the promise allows are equal, and so is all that was lent
 --
 -- The session and what a step came to are given explicitly: they are too large to be found. Assumes nothing.
-use Prim.Native.Nat.{ℕ, _≤_, _<_}
+use Prim.Native.Nat.{ℕ, _≤_}
 use mathlib.Core.Path.{_≡_, refl, sym, ap, ap₂, _∙_}
-use mathlib.Core.Bool.{true, false, not}
+use mathlib.Core.Bool.{Bool, true, false, not}
 use mathlib.Core.List.{List, _++_}
 use lib.Dec.{eqb}
 use lib.ListN.{length, take, drop}
-use borrow.Author.Tests.{eq-eqb, ne-eqb, lt-ltb, le-ltb}
-use Rattle.choice.specs.Pick.{pick-yes, pick-no}
+use borrow.Author.Tests.{eq-eqb, ne-eqb, le-ltb}
+use Rattle.choice.specs.Pick.{pick, pick-false, pick-yes, pick-no}
 use Rattle.meaning.specs.Record.{eventOf}
 use Rattle.records.specs.Read.{shown}
 use Rattle.words.specs.Words.{Bytes}
@@ -32,7 +33,7 @@ use Rattle.session.specs.declared.Answer.the-variants.{Refused, Taken}
 use Rattle.session.specs.declared.Step.{Step}
 use Rattle.session.specs.declared.Finish as finished
 use Rattle.session.specs.Begin.{shortRoom}
-use Rattle.session.specs.Event.{Done, refused, numbersOf, withNumbers, settled, within, beside, event}
+use Rattle.session.specs.Event.{Done, refused, refuseLent, numbersOf, withNumbers, settled, within, beside, event}
 use Rattle.session.specs.Event.{ToldDone, toldAs, toldOf, EventGives, finish, FinishGives}
 use Rattle.session.specs.Told.{told, told-one, ended-one}
 
@@ -79,17 +80,34 @@ module _ (s : Session) (bytes E N out E′ N′ out′ : List ℕ) (refusal give
       ∙ pick-yes _ _ _ _ (eq-eqb refusal 0 z) refl
       ∙ ap (settled s E N out) came-is
 
--- on any room
+-- on any room, by the tests of what is lent
+
+lent-cases :
+    (a b c : Bool) (r : ℕ) (s : Session) (E N out : List ℕ) (d : Done) → r ≡ pick a 1 (pick b 15 (pick c 15 0)) → (r ≡ 0 → ⊥) →
+    _≡_ {A = Done} (refused r s E N out) (pick a (refused 1 s E N out) (pick (pick b true c) (refused 15 s E N out) d))
+unfolding pick
+lent-cases true b c r s E N out d e f = ap (λ (k : ℕ). refused k s E N out) e
+lent-cases false true c r s E N out d e f = ap (λ (k : ℕ). refused k s E N out) e
+lent-cases false false true r s E N out d e f = ap (λ (k : ℕ). refused k s E N out) e
+lent-cases false false false r s E N out d e f = absurd (f e)
+
+small-cases : (b c : Bool) (r : ℕ) → r ≡ pick b 15 (pick c 15 0) → (r ≡ 0 → ⊥) → (r ≡ 15) × (pick b true c ≡ true)
+unfolding pick
+small-cases true c r e f = (e, refl)
+small-cases false true r e f = (e, refl)
+small-cases false false r e f = absurd (f e)
+
+pub lent-small :
+    (E N out : List ℕ) (r : ℕ) → r ≡ refuseLent (length out) (length E) (length N) → (r ≡ 0 → ⊥) → outputNeeded ≤ length out →
+    (r ≡ 15) × (shortRoom E N ≡ true)
+unfolding refuseLent shortRoom
+lent-small E N out r e f h = small-cases _ _ r (e ∙ pick-false _ _ _ (le-ltb _ _ h)) f
 
 module _ (s : Session) (bytes E N out : List ℕ) where
-  pub event-short : length out < outputNeeded → toldAs (Refused 1) s E N out ≡ toldOf (event s bytes E N out)
-  unfolding event
-  event-short h = ap (λ (d : Done). toldOf d) (pick-yes _ (refused 1 s E N out) _ _ (lt-ltb _ _ h) refl)
-
-  pub event-small : outputNeeded ≤ length out → shortRoom E N ≡ true → toldAs (Refused 15) s E N out ≡ toldOf (event s bytes E N out)
-  unfolding event
-  event-small h k =
-      ap (λ (d : Done). toldOf d) (pick-no _ (refused 15 s E N out) _ _ (le-ltb _ _ h) (pick-yes _ (refused 15 s E N out) _ _ k refl))
+  pub event-lent :
+      (r : ℕ) → r ≡ refuseLent (length out) (length E) (length N) → (r ≡ 0 → ⊥) → toldAs (Refused r) s E N out ≡ toldOf (event s bytes E N out)
+  unfolding event refuseLent shortRoom
+  event-lent r e f = ap (λ (d : Done). toldOf d) (lent-cases _ _ _ r s E N out _ e f)
 
   event-within :
       (d : Done) (E′ N′ : List ℕ) → outputNeeded ≤ length out → shortRoom E N ≡ false → d ≡ within s bytes (take elementsRoom E) (take nodesRoom N) out →

@@ -3,45 +3,46 @@ use borrow.Author.Needs.{needs}
 use native.Mathlib.Omega.{arith}
 use mathlib.Core.Path.{sym, _∙_}
 use lib.Seq.{length-take-le}
-use Rattle.step.specs.Step.Laws.{output-is, held-is}
-use Rattle.session.specs.Begin.Laws.{elements-room, nodes-room, short-elements, short-nodes, room-enough}
-use Rattle.session.specs.Event.Laws.{event-short, event-small, event-parts}
+use Rattle.session.specs.Begin.Laws.{elements-room, nodes-room, room-enough}
+use Rattle.session.specs.Event.Laws.{event-lent, event-parts}
 use Rattle.session.proofs.Session.event.Statement.{statement}
 use Rattle.session.proofs.Session.event.Tie as tie
 
+refuse-lent-requires : tie.Need-refuse-lent-requires
+refuse-lent-requires c κs = search needs
+
 returns : tie.Need-returns
-returns c = let args = c .before .before .before .before .before .args in
-    event-short (args .self) (args .bytes .now) (args .elements .now) (args .nodes .now) (args .out .now) (omega (arith, output-is, held-is))
-
-returns-2 : tie.Need-returns-2
-returns-2 c = let args = c .before .before .before .before .before .before .args in
-    event-small (args .self) (args .bytes .now) (args .elements .now) (args .nodes .now) (args .out .now) (omega (arith, output-is, held-is))
-    (short-elements _ _ (omega (arith, elements-room)))
-
-returns-3 : tie.Need-returns-3
-returns-3 c = let args = c .before .before .before .before .before .before .before .args in
-    event-small (args .self) (args .bytes .now) (args .elements .now) (args .nodes .now) (args .out .now) (omega (arith, output-is, held-is))
-    (short-nodes _ _ (omega (arith, elements-room)) (omega (arith, nodes-room)))
+returns c = let args = c .before .before .before .before .before .before .args in
+    event-lent (args .self) (args .bytes .now) (args .elements .now) (args .nodes .now) (args .out .now) _ (c .before .refuse-lent .ensures .0)
+    (c .if1 .taken)
 
 slice-relend-prefix-within : tie.Need-slice-relend-prefix-within
-slice-relend-prefix-within c = search needs
+slice-relend-prefix-within c = let at-if = c in
+    let fits = at-if .before .refuse-lent .ensures .1 (at-if .if1 .left) in
+    omega (arith, elements-room, fits .deep)
 
 slice-aggregate-within : tie.Need-slice-aggregate-within
-slice-aggregate-within c = let at-if2 = c .before .before in
-    sym (length-take-le 16384 (at-if2 .before .before .before .before .before .before .args .elements .now) (at-if2 .if2 .left))
+slice-aggregate-within c = let at-if = c .before in
+    let fits = at-if .before .refuse-lent .ensures .1 (at-if .if1 .left) in
+    sym (length-take-le 16384 (at-if .before .before .before .before .before .before .args .elements .now) (omega (arith, elements-room, fits .deep)))
 
 slice-relend-prefix-within-2 : tie.Need-slice-relend-prefix-within-2
-slice-relend-prefix-within-2 c = search needs
+slice-relend-prefix-within-2 c = let at-if = c .before in
+    let fits = at-if .before .refuse-lent .ensures .1 (at-if .if1 .left) in
+    omega (arith, nodes-room, fits .held)
 
 slice-aggregate-within-2 : tie.Need-slice-aggregate-within-2
-slice-aggregate-within-2 c = let at-if3 = c .before .before in
-    sym (length-take-le 32768 (at-if3 .before .before .before .before .before .before .before .args .nodes .now) (at-if3 .if3 .left))
+slice-aggregate-within-2 c = let at-if = c .before .before in
+    let fits = at-if .before .refuse-lent .ensures .1 (at-if .if1 .left) in
+    sym (length-take-le 32768 (at-if .before .before .before .before .before .before .args .nodes .now) (omega (arith, nodes-room, fits .held)))
 
 within-requires : tie.Need-within-requires
-within-requires c κs = let args = c .before .before .before .before .before .before .before .before .before .before .args in (
-  length-take-le 16384 (args .elements .now) (c .before .before .before .before .if2 .left) ∙ sym elements-room,
-  (length-take-le 32768 (args .nodes .now) (c .before .before .before .if3 .left) ∙ sym nodes-room, omega (arith, output-is, held-is)),
-)
+within-requires c κs = let at-if = c .before .before .before in
+    let fits = at-if .before .refuse-lent .ensures .1 (at-if .if1 .left) in
+    let args = at-if .before .before .before .before .before .before .args in (
+      length-take-le 16384 (args .elements .now) (omega (arith, elements-room, fits .deep)) ∙ sym elements-room,
+      (length-take-le 32768 (args .nodes .now) (omega (arith, nodes-room, fits .held)) ∙ sym nodes-room, fits .wide),
+    )
 
 same-length : tie.Need-same-length
 same-length c = search needs
@@ -52,19 +53,19 @@ same-length-2 c = search needs
 same-length-3 : tie.Need-same-length-3
 same-length-3 c = search needs
 
-returns-4 : tie.Need-returns-4
-returns-4 c = let at-within = c .before .before .before .before .before .before in
-    let args = at-within .before .before .before .before .before .before .before .before .before .before .before .args in
+returns-2 : tie.Need-returns-2
+returns-2 c = let at-if = c .before .before .before .before .before .before .before .before .before .before in
+    let fits = at-if .before .refuse-lent .ensures .1 (at-if .if1 .left) in
+    let args = at-if .before .before .before .before .before .before .args in
     event-parts (args .self) (args .bytes .now) (args .elements .now) (args .nodes .now) (args .out .now) _ _ _ _ _ 16384 32768 elements-room nodes-room
-    (omega (arith, output-is, held-is)) (room-enough _ _ (omega (arith, elements-room)) (omega (arith, nodes-room))) (at-within .within .ensures)
+    (fits .wide) (room-enough _ _ (fits .deep) (fits .held)) (c .before .before .before .before .before .before .within .ensures)
 
 pub event-spec : {M : Type 1} → statement M
 event-spec =
     tie.close
     (tie.spec
+    refuse-lent-requires
     returns
-    returns-2
-    returns-3
     slice-relend-prefix-within
     slice-aggregate-within
     slice-relend-prefix-within-2
@@ -73,4 +74,4 @@ event-spec =
     same-length
     same-length-2
     same-length-3
-    returns-4)
+    returns-2)
