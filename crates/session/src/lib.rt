@@ -6,7 +6,7 @@ ghost use lib.ListN.{length};
 ghost use Rattle.meaning.specs.Limits.{outputNeeded, elementsNeeded, nodesNeeded};
 ghost use Rattle.numbers.specs.Numbers.{numbersRoom, numbersIn};
 ghost use Rattle.session.specs.Begin.{fresh, BeginGives};
-ghost use Rattle.session.specs.Event.{numbersOf, withNumbers, within, EventGives, FinishGives};
+ghost use Rattle.session.specs.Event.{refuseLent, LentFits, numbersOf, withNumbers, within, EventGives, FinishGives};
 ghost use Rattle.session.specs.Run.{ran, runWithin, RunGives};
 use plan::Plan;
 use query::QueryAnswer;
@@ -79,6 +79,22 @@ fn fresh(plan: Plan) -> Session
         handed: 0,
         ended: false,
     }
+}
+
+// The refusal for what an event is lent, by the lengths, or 0: "15 comes directly after 1 and before all others".
+fn refuse_lent(out: usize, elements: usize, nodes: usize) -> u8
+    ensures { λ r. ⌜ (r ≡ refuseLent out elements nodes) × (r ≡ 0 → LentFits out elements nodes) ⌝ }
+{
+    if out < limits::OUTPUT {
+        return limits::SHORT_OUTPUT;
+    }
+    if elements < limits::ELEMENTS_ROOM {
+        return limits::SHORT_ROOM;
+    }
+    if nodes < limits::NODES_ROOM {
+        return limits::SHORT_ROOM;
+    }
+    0
 }
 
 // A session for a query. Nothing is asked of the content of the lent room, and none of it is read or written.
@@ -166,10 +182,10 @@ impl Session {
                 session: self,
             };
         }
-        let session = self.with(&numbers);
+        let next = self.with(&numbers);
         Step {
             answer: Answer::Taken(r.given),
-            session: session,
+            session: next,
         }
     }
 
@@ -178,21 +194,10 @@ impl Session {
         ensures { λ r. ⌜ EventGives self (now (bytes .entry)) (now (elements .entry)) (now (nodes .entry)) (now (out .entry)) r
             (now (elements .exit)) (now (nodes .exit)) (now (out .exit)) ⌝ }
     {
-        if out.len() < limits::OUTPUT {
+        let refusal = refuse_lent(out.len(), elements.len(), nodes.len());
+        if refusal != 0 {
             return Step {
-                answer: Answer::Refused(limits::SHORT_OUTPUT),
-                session: self,
-            };
-        }
-        if elements.len() < limits::ELEMENTS_ROOM {
-            return Step {
-                answer: Answer::Refused(limits::SHORT_ROOM),
-                session: self,
-            };
-        }
-        if nodes.len() < limits::NODES_ROOM {
-            return Step {
-                answer: Answer::Refused(limits::SHORT_ROOM),
+                answer: Answer::Refused(refusal),
                 session: self,
             };
         }
@@ -227,9 +232,9 @@ impl Session {
         let mut numbers = [0u8; 20];
         self.lay(&mut numbers);
         let fed = feed::feed(&kept, events, &mut numbers, elements, nodes, out);
-        let session = self.with(&numbers);
+        let last = self.with(&numbers);
         Ran {
-            session: session,
+            session: last,
             taken: fed.taken,
             listed: fed.listed,
             refusal: fed.refusal,
@@ -248,11 +253,9 @@ impl Session {
         if out.len() < limits::OUTPUT {
             return self.stays(0);
         }
-        if elements.len() < limits::ELEMENTS_ROOM {
-            return self.stays(limits::SHORT_ROOM);
-        }
-        if nodes.len() < limits::NODES_ROOM {
-            return self.stays(limits::SHORT_ROOM);
+        let room = refuse_lent(out.len(), elements.len(), nodes.len());
+        if room != 0 {
+            return self.stays(room);
         }
         self.run_within(
             events,

@@ -33,7 +33,8 @@ use Rattle.feed.specs.Steps.{Seat, seat, came, stepAt, Whole}
 use Rattle.feed.specs.Steps.Laws.{refused-at, whole-step}
 use Rattle.session.specs.declared.Session.{Session}
 use Rattle.session.specs.declared.Ran.{Ran}
-use Rattle.session.specs.Event.{Done, numbersOf, withNumbers, settled, within, beside, event}
+use Rattle.session.specs.Event.{Done, refuseLent, numbersOf, withNumbers, settled, within, beside, event}
+use Rattle.session.specs.Event.Laws.{lent-small}
 use Rattle.session.specs.Run.{Lent, lent, refusalOf, givenOf, cameTo, eventAt, ran, runWithin, RunGives}
 
 -- the numbers there and back
@@ -181,8 +182,12 @@ module _ (s : Session) (es E N out : List ℕ) where
       (andThen (one c) (fed eventAt n (c .seat) (drop 8 es) (drop (4 * c .given) (c .out)))) (one c)) (small-event (take 8 es) h k)
       ∙ pick-false _ _ _ (ne-eqb 15 0 (λ z. omega arith))))
 
-  pub run-small : (r : Ran) → r ≡ stayed s shortRoom → 8 ≤ length es → outputNeeded ≤ length out → tooSmall (length E) (length N) ≡ true → Gives r
-  run-small r e l h k = still 15 r e (small (length es / 8) (omega arith) h k)
+  pub run-small :
+      (refusal : ℕ) (r : Ran) → r ≡ stayed s refusal → refusal ≡ refuseLent (length out) (length E) (length N) → (refusal ≡ 0 → ⊥) → 8 ≤ length es →
+      outputNeeded ≤ length out → Gives r
+  run-small refusal r e k f l h =
+      let p = lent-small E N out refusal k f h in
+      still 15 r (e ∙ ap (stayed s) (p .0)) (small (length es / 8) (omega arith) h (p .1))
 
 -- any other block: k and l are how long the parts of the room are that were lent on
 
