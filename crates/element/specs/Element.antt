@@ -16,10 +16,10 @@ use Rattle.engine.specs.Quick.{Frame}
 use Rattle.words.specs.Records.{Shape, Records, setAt, blank, recordsIn, at}
 
 abbrev pub frameOf : (ℕ → ℕ) → Frame
-frameOf r = record { name = r 0; pass = r 1; below = r 2; met = r 3; sure = r 4; poss = r 5 }
+frameOf r = record { name = r 0; pass = r 1; below = r 2; met = r 3; sure = r 4; possible = r 5 }
 
 abbrev pub fieldOf : ℕ → Frame → ℕ
-fieldOf g f = getD (f .name ∷ f .pass ∷ f .below ∷ f .met ∷ f .sure ∷ f .poss ∷ []) g 0
+fieldOf g f = getD (f .name ∷ f .pass ∷ f .below ∷ f .met ∷ f .sure ∷ f .possible ∷ []) g 0
 
 abbrev pub shape : Shape Frame
 shape = record { count = depthLimit; wide = 16; fields = 6; make = frameOf; field = fieldOf }
@@ -45,7 +45,7 @@ raisedIn i below met E =
       below = below;
       met = met;
       sure = frameAt E i .sure;
-      poss = frameAt E i .poss;
+      possible = frameAt E i .possible;
     })
     E
 
@@ -58,9 +58,9 @@ refreshedIn i sure E =
       below = frameAt E i .below;
       met = frameAt E i .met;
       sure = sure;
-      poss = frameAt E i .poss;
+      possible = frameAt E i .possible;
     })
     E
 
 unfoldable pub openedIn : ℕ → ℕ → ℕ → ℕ → ℕ → Elements → Elements
-openedIn i name pass met possible E = setAt i (record { name = name; pass = pass; below = 0; met = met; sure = 0; poss = possible }) E
+openedIn i name pass met possible E = setAt i (record { name = name; pass = pass; below = 0; met = met; sure = 0; possible = possible }) E

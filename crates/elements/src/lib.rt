@@ -7,7 +7,7 @@ ghost use Rattle.meaning.specs.Name.{passes};
 ghost use Rattle.meaning.specs.Limits.{depthLimit, elementsNeeded};
 ghost use Rattle.sets.specs.Set.{without};
 ghost use Rattle.plan.specs.Plan.{named, meets, lift, turn, lastGiven};
-ghost use Rattle.engine.specs.Quick.{sureAt, possAt};
+ghost use Rattle.engine.specs.Quick.{sureAt, possibleAt};
 ghost use Rattle.element.specs.Element.{elementsIn};
 ghost use Rattle.plan_bytes.specs.Kept.{planRoom, keptIn};
 ghost use Rattle.elements.specs.Elements.{risenIn, refreshedFrom, pushedIn};
@@ -104,7 +104,7 @@ pub fn sure_at(kept: &[u8], elements: &[u8], level: usize) -> u32
 // The same in the open reading.
 pub fn possible_at(kept: &[u8], elements: &[u8], level: usize) -> u32
     requires { ⌜ (length (now kept) ≡ planRoom) × ((length (now elements) ≡ elementsNeeded) × (level ≤ depthLimit)) ⌝ }
-    ensures { λ r. ⌜ r ≡ possAt (keptIn (now (kept .entry))) (elementsIn (now (elements .entry)) .list) level ⌝ }
+    ensures { λ r. ⌜ r ≡ possibleAt (keptIn (now (kept .entry))) (elementsIn (now (elements .entry)) .list) level ⌝ }
 {
     if level == 0 {
         return plan_bytes::steps(kept, plan_bytes::FIRST);

@@ -42,7 +42,7 @@ pub record Frame (B R : Type 0) : Type 0 where
   pub node : Node
   pub below : B
   pub sure : R
-  pub poss : R
+  pub possible : R
 
 pub record Place (N : Type 0) : Type 0 where
   pub level : ℕ
@@ -101,20 +101,20 @@ module _ {S B R N : Type 0} (O : Ops S B R N) where
 
   -- an open element with K met in its content, under rs
   abbrev pub frameOf : Node → B → R → R → Frame B R
-  frameOf x K rs r = record { node = x; below = K; sure = O .turn (O .meets x K) rs; poss = r }
+  frameOf x K rs r = record { node = x; below = K; sure = O .turn (O .meets x K) rs; possible = r }
 
   -- an open takes nothing from the open reading of the elements around it, and adds nothing to it
   unfoldable pub grow : Node → R → R → List (Frame B R) → List (Frame B R)
   grow y rs rp [] = frameOf y (O .empty) rs (O .turn (O .named y) rp) ∷ []
   grow y rs rp (f ∷ fs) =
-      frameOf (f .node) (O .join (f .below) (rise y fs)) rs (f .poss)
-      ∷ grow y (O .turn (O .meets (f .node) (O .join (f .below) (rise y fs))) rs) (f .poss) fs
+      frameOf (f .node) (O .join (f .below) (rise y fs)) rs (f .possible)
+      ∷ grow y (O .turn (O .meets (f .node) (O .join (f .below) (rise y fs))) rs) (f .possible) fs
 
   unfoldable pub sures : List (Frame B R) → List R
   sures fs = O .start ∷ map (λ f. f .sure) fs
 
-  unfoldable pub posses : List (Frame B R) → List R
-  posses fs = O .start ∷ map (λ f. f .poss) fs
+  unfoldable pub possibles : List (Frame B R) → List R
+  possibles fs = O .start ∷ map (λ f. f .possible) fs
 
   unfoldable pub stands : List R → Place N → Bool
   stands rs x = O .value (getD rs (x .level) (O .start)) (x .need)
@@ -123,7 +123,7 @@ module _ {S B R N : Type 0} (O : Ops S B R N) where
   certain fs w = stands (sures fs) (w .place)
 
   unfoldable pub alive : List (Frame B R) → Waiting N → Bool
-  alive fs w = stands (posses fs) (w .place)
+  alive fs w = stands (possibles fs) (w .place)
 
   unfoldable pub settle : List (Frame B R) → List (Waiting N) → ℕ → Result B R N
   settle fs ws n =

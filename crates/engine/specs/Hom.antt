@@ -16,7 +16,7 @@ use lib.ListN.{length, length-map, getD, List·getD-map}
 use Rattle.meaning.specs.Document.{Node}
 use Rattle.engine.specs.Every.{Every, eNil, eCons, every-all}
 use Rattle.engine.specs.Engine.{Ops, Frame, Place, Waiting, State, Result, keepIf, keep, frontIf, front, pastIf, past, isLevel}
-use Rattle.engine.specs.Engine.{rise, frameOf, grow, sures, posses, stands, certain, alive, settle, newcomer, openModel}
+use Rattle.engine.specs.Engine.{rise, frameOf, grow, sures, possibles, stands, certain, alive, settle, newcomer, openModel}
 use Rattle.engine.specs.Engine.{exact, moveIf, move, moveWaiting, closeModel}
 
 -- lists
@@ -67,7 +67,7 @@ pub record Coat (S B R N S′ B′ R′ N′ : Type 0) : Type 0 where
 
 module _ {S B R N S′ B′ R′ N′ : Type 0} (k : Coat S B R N S′ B′ R′ N′) where
   abbrev pub frameIn : Frame B R → Frame B′ R′
-  frameIn f = record { node = f .node; below = k .below (f .below); sure = k .ready (f .sure); poss = k .ready (f .poss) }
+  frameIn f = record { node = f .node; below = k .below (f .below); sure = k .ready (f .sure); possible = k .ready (f .possible) }
 
   abbrev pub placeIn : Place N → Place N′
   placeIn x = record { level = x .level; need = k .need (x .need) }
@@ -115,8 +115,8 @@ module _
       (x : Node) {a : B} {b : B′} (rs : R) {r : R} {r′ : R′} → k .below a ≡ b → k .ready r ≡ r′ →
       frameIn k (frameOf O x a rs r) ≡ frameOf P x b (k .ready rs) r′
   frame-hom x {a} {b} rs {r} {r′} e e′ =
-      ap₂ (λ c s. record { node = x; below = c; sure = s; poss = k .ready r }) e (turn-hom rs (met-hom x e))
-      ∙ ap (λ p. record { node = x; below = b; sure = P .turn (P .meets x b) (k .ready rs); poss = p }) e′
+      ap₂ (λ c s. record { node = x; below = c; sure = s; possible = k .ready r }) e (turn-hom rs (met-hom x e))
+      ∙ ap (λ p. record { node = x; below = b; sure = P .turn (P .meets x b) (k .ready rs); possible = p }) e′
 
   grow-hom :
       (y : Node) (rs rp : R) (fs : List (Frame B R)) →
@@ -125,7 +125,7 @@ module _
   grow-hom y rs rp [] = ap (λ f. f ∷ []) (frame-hom y rs (h .empty) (turn-hom rp (h .named y)))
   grow-hom y rs rp (f ∷ fs) =
       ap₂ _∷_ (frame-hom (f .node) rs inside refl)
-      (grow-hom y _ (f .poss) fs ∙ ap (λ r. grow P y r (k .ready (f .poss)) (map (frameIn k) fs)) (turn-hom rs (met-hom (f .node) inside)))
+      (grow-hom y _ (f .possible) fs ∙ ap (λ r. grow P y r (k .ready (f .possible)) (map (frameIn k) fs)) (turn-hom rs (met-hom (f .node) inside)))
     where
       inside : k .below (O .join (f .below) (rise O y fs)) ≡ P .join (k .below (f .below)) (rise P y (map (frameIn k) fs))
       inside = joined f (rise-hom y fs)
@@ -142,10 +142,10 @@ module _
   sures-hom fs =
       ap₂ _∷_ (h .start) (map-map (k .ready) (λ (f : Frame B R). f .sure) fs ∙ sym (map-map (λ (f : Frame B′ R′). f .sure) (frameIn k) fs))
 
-  posses-hom : (fs : List (Frame B R)) → map (k .ready) (posses O fs) ≡ posses P (map (frameIn k) fs)
-  unfolding posses
-  posses-hom fs =
-      ap₂ _∷_ (h .start) (map-map (k .ready) (λ (f : Frame B R). f .poss) fs ∙ sym (map-map (λ (f : Frame B′ R′). f .poss) (frameIn k) fs))
+  possibles-hom : (fs : List (Frame B R)) → map (k .ready) (possibles O fs) ≡ possibles P (map (frameIn k) fs)
+  unfolding possibles
+  possibles-hom fs =
+      ap₂ _∷_ (h .start) (map-map (k .ready) (λ (f : Frame B R). f .possible) fs ∙ sym (map-map (λ (f : Frame B′ R′). f .possible) (frameIn k) fs))
 
   pub certain-hom : (fs : List (Frame B R)) (w : Waiting N) → certain O fs w ≡ certain P (map (frameIn k) fs) (waitingIn k w)
   unfolding certain
@@ -153,7 +153,7 @@ module _
 
   pub alive-hom : (fs : List (Frame B R)) (w : Waiting N) → alive O fs w ≡ alive P (map (frameIn k) fs) (waitingIn k w)
   unfolding alive
-  alive-hom fs w = stands-hom (posses O fs) (w .place) ∙ ap (λ rs. stands P rs (placeIn k (w .place))) (posses-hom fs)
+  alive-hom fs w = stands-hom (possibles O fs) (w .place) ∙ ap (λ rs. stands P rs (placeIn k (w .place))) (possibles-hom fs)
 
   settle-hom :
       (fs : List (Frame B R)) (ws : List (Waiting N)) (n : ℕ) →

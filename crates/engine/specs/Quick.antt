@@ -2,13 +2,13 @@
 --
 --   Frame              an open element: its name; the steps whose name test it passes (pass); the predicate steps that are surely met
 --                      in its content so far (below); the steps it surely meets (met); whose turn it is in its content, in the sure
---                      reading (sure) and in the open reading (poss)
+--                      reading (sure) and in the open reading (possible)
 --   Waiting            a waiting node: its number, the level where it waits (the depth of its deepest open ancestor or self), its need
 --   State              the open elements, outermost first; the waiting nodes, in document order; the nodes opened and handed out so
 --                      far; whether the document element has been closed
 --   Result             the next state and the nodes handed out
 --   begun              the state before the first event
---   nameAt, metAt, sureAt, possAt     what the frames hold at a level; level 0 is the document
+--   nameAt, metAt, sureAt, possibleAt     what the frames hold at a level; level 0 is the document
 --   certain P fs w     w is selected in the sure reading: its need meets its level's turn, or it is given the last step itself
 --   counted c ws       how many at the beginning of ws pass c
 --   rise P a fs        a met anew inside the frames fs rises through them, until it is no news: which stay (kept), which have risen, and
@@ -53,7 +53,7 @@ pub record Frame : Type 0 where
   pub below : ℕ
   pub met : ℕ
   pub sure : ℕ
-  pub poss : ℕ
+  pub possible : ℕ
 
 pub record Waiting : Type 0 where
   pub node : ℕ
@@ -83,8 +83,8 @@ metAt fs l = getD (0 ∷ map (λ f. f .met) fs) l 0
 unfoldable pub sureAt : Plan → List Frame → ℕ → ℕ
 sureAt P fs l = getD (P .first ∷ map (λ f. f .sure) fs) l 0
 
-unfoldable pub possAt : Plan → List Frame → ℕ → ℕ
-possAt P fs l = getD (P .first ∷ map (λ f. f .poss) fs) l 0
+unfoldable pub possibleAt : Plan → List Frame → ℕ → ℕ
+possibleAt P fs l = getD (P .first ∷ map (λ f. f .possible) fs) l 0
 
 unfoldable pub certainIf : Bool → Plan → List Frame → ℕ → ℕ → Bool
 certainIf true P fs l need = lastGiven (metAt fs l) (sureAt P fs (pred l))
@@ -110,7 +110,7 @@ pub record Rise : Type 0 where
 
 unfoldable pub raised : Plan → Frame → ℕ → Frame
 raised P f new =
-    record { name = f .name; pass = f .pass; below = new; met = meets P (f .pass) new; sure = f .sure; poss = f .poss }
+    record { name = f .name; pass = f .pass; below = new; met = meets P (f .pass) new; sure = f .sure; possible = f .possible }
 
 unfoldable pub riseIf : Bool → Plan → Frame → ℕ → List Frame → Rise
 riseIf true P f new risen = record { kept = f ∷ []; risen = risen; carry = 0 }
@@ -126,7 +126,7 @@ rise P a [] = record { kept = []; risen = []; carry = a }
 rise P a (f ∷ fs) = riseAt P f (rise P a fs .kept) (rise P a fs .risen) (rise P a fs .carry)
 
 unfoldable pub refreshed : Frame → ℕ → Frame
-refreshed f s = record { name = f .name; pass = f .pass; below = f .below; met = f .met; sure = s; poss = f .poss }
+refreshed f s = record { name = f .name; pass = f .pass; below = f .below; met = f .met; sure = s; possible = f .possible }
 
 unfoldable pub refresh : Plan → ℕ → List Frame → List Frame
 refresh P s [] = []
@@ -134,20 +134,20 @@ refresh P s (f ∷ fs) = refreshed f (turn P (f .met) s) ∷ refresh P (turn P (
 
 -- nothing is met yet in the new element: it meets the steps on which no predicate hangs
 unfoldable pub fresh : Plan → ℕ → ℕ → Frame
-fresh P n poss =
+fresh P n possible =
     record {
       name = n;
       pass = named P n;
       below = 0;
       met = meet (named P n) (P .plain);
       sure = 0;
-      poss = turn P (named P n) poss;
+      possible = turn P (named P n) possible;
     }
 
 -- `sure` is refreshed from the highest change on
 unfoldable pub framesAfter : Plan → ℕ → List Frame → Rise → List Frame
 framesAfter P n fs r =
-    r .kept ++ refresh P (sureAt P (r .kept) (length (r .kept))) (r .risen ++ (fresh P n (possAt P fs (length fs)) ∷ []))
+    r .kept ++ refresh P (sureAt P (r .kept) (length (r .kept))) (r .risen ++ (fresh P n (possibleAt P fs (length fs)) ∷ []))
 
 pub record Opening : Type 0 where
   pub frames : List Frame
@@ -167,7 +167,7 @@ judged P n s fs went =
       went = went;
       all =
           eqb went (length (s .queue)) && lastGiven (meet (named P n) (P .plain)) (sureAt P fs (length (s .frames)));
-      joins = lastGiven (named P n) (possAt P (s .frames) (length (s .frames)));
+      joins = lastGiven (named P n) (possibleAt P (s .frames) (length (s .frames)));
     }
 
 -- where nothing has risen no older node can have become certain
@@ -233,7 +233,7 @@ moved P M l w = record { node = w .node; level = l; need = up P M (w .need) }
 
 -- a node whose need meets no turn of the open reading is ruled out
 unfoldable pub stay : Plan → ℕ → ℕ → ℕ → List Waiting → List Waiting
-stay P M l poss ws = keep (λ w. overlaps (w .need) poss) (map (moved P M l) ws)
+stay P M l possible ws = keep (λ w. overlaps (w .need) possible) (map (moved P M l) ws)
 
 pub record Closing : Type 0 where
   pub frames : List Frame
@@ -252,7 +252,7 @@ closingFrom P fs before from stays =
 unfoldable pub closingAt : Plan → State → ℕ → Cut Waiting → Closing
 closingAt P s l c =
     closingFrom P (dropLast (s .frames)) (c .before) (c .from)
-    (stay P (metAt (s .frames) (length (s .frames))) l (possAt P (s .frames) l) (c .from))
+    (stay P (metAt (s .frames) (length (s .frames))) l (possibleAt P (s .frames) l) (c .from))
 
 unfoldable pub closing : Plan → State → Closing
 closing P s = closingAt P s (pred (length (s .frames))) (cut (λ w. w .level) (length (s .frames)) (s .queue))

@@ -44,7 +44,7 @@ numberOf w = w .number
 unfoldable pub framesOf : Query → Doc → Ready → Ready → List (Frame Steps Ready)
 framesOf q (done f) rs rp = []
 framesOf q (within p x d) rs rp =
-    record { node = x; below = met q sure-reading d; sure = turn q (meets q false x (met q sure-reading d)) rs; poss = turn q (named x) rp }
+    record { node = x; below = met q sure-reading d; sure = turn q (meets q false x (met q sure-reading d)) rs; possible = turn q (named x) rp }
     ∷ framesOf q d (turn q (meets q false x (met q sure-reading d)) rs) (turn q (named x) rp)
 
 abbrev pub here : Need → Place Need

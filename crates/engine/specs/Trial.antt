@@ -33,7 +33,7 @@ acts : Plan.Plan → Event → State → Result
 unfolding member without covers overlaps keepIf keep Plan.named Plan.meets Plan.lift Plan.turn Plan.lastGiven Plan.upIf Plan.up quickAct
     quickOpen Quick.opening Quick.openingFrom Quick.judged Quick.framesAfter Quick.fresh Quick.refresh Quick.refreshed Quick.rise Quick.riseAt
     Quick.riseIf Quick.raised Quick.over Quick.newcomer Quick.queueAfter Quick.outAfter Quick.opens Quick.wentIf Quick.counted Quick.countedIf
-    Quick.certain Quick.certainIf Quick.metAt Quick.sureAt Quick.possAt quickClose Quick.closing Quick.closingAt Quick.closingFrom Quick.stay
+    Quick.certain Quick.certainIf Quick.metAt Quick.sureAt Quick.possibleAt quickClose Quick.closing Quick.closingAt Quick.closingFrom Quick.stay
     Quick.moved Quick.cut Quick.cutIf Quick.closes
 acts P e s = quickAct P e s
 

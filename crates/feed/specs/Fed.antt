@@ -1,4 +1,3 @@
-use Rattle.meaning.specs.Limits.{outputNeeded}
 -- Single events one after the other, over any kind of seat (what an event is taken at) and any way to take one.
 --
 --   Came S                   what one event comes to: its refusal or 0, how many nodes were handed out, the seat and the buffer afterwards
@@ -24,6 +23,7 @@ use mir.Val.{boolByte}
 use lib.Dec.{eqb, leb, ltb}
 use lib.ListN.{length, take, drop}
 use Rattle.choice.specs.Pick.{pick}
+use Rattle.meaning.specs.Limits.{outputNeeded}
 
 pub record Came (S : Type 0) : Type 0 where
   pub refusal : ℕ

@@ -40,9 +40,11 @@ pub const TOO_MANY_HELD: u8 = 7;
 // "no document element yet, or it is still open"
 pub const UNFINISHED: u8 = 8;
 
-// "lent room under 16,384 bytes for the open elements or under 32,768 bytes for the waiting nodes"
+// "query of 0 bytes, of a length not a multiple of 8, or over 256 bytes"
 pub const BAD_LENGTH: u8 = 9;
 
+// "a step breaks a rule; comes with the first such step's number"
 pub const BAD_STEP: u8 = 10;
 
+// "lent room under 16,384 bytes for the open elements or under 32,768 bytes for the waiting nodes"
 pub const SHORT_ROOM: u8 = 15;

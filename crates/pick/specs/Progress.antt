@@ -1,6 +1,7 @@
 -- The records of some bytes, offered one after the other to a session, in the words of the meaning.
 --
---   Progress b es bs l taken refusal nodes     after the query bytes b and the accepted events es, records of bs were offered, up to the first refusal or fewer:
+--   Progress b es bs l taken refusal nodes     after the query bytes b and the accepted events es, records of bs were offered, up to the first refusal or
+--                                             fewer:
 --                                             `taken` of them were accepted, have listed `nodes` and led to the session and room l; the next one was refused
 --                                             with the number `refusal`, or none was and it is 0
 --
@@ -16,10 +17,10 @@ use Rattle.meaning.specs.Stream.{Event, document}
 use Rattle.meaning.specs.Standing.{listed}
 use Rattle.meaning.specs.Offering.{offering}
 use Rattle.query.specs.Decode.{decode}
-use Rattle.session.specs.Run.{Lent}
+use Rattle.session.specs.Run.{Housed}
 use Rattle.promise.specs.Promise.{Of}
 
-pub record Progress (b : List ℕ) (es : List Event) (bs : List ℕ) (l : Lent) (taken refusal : ℕ) (nodes : List ℕ) : Type 0 where
+pub record Progress (b : List ℕ) (es : List Event) (bs : List ℕ) (l : Housed) (taken refusal : ℕ) (nodes : List ℕ) : Type 0 where
   -- the events accepted by then
   pub events : List Event
   pub reached : Of b events l

@@ -36,7 +36,7 @@ use Rattle.meaning.specs.Offering.{offeringAll}
 use Rattle.query.specs.Decode.{decode}
 use Rattle.feed.specs.Fed.{Fed}
 use Rattle.session.specs.declared.Session.{Session}
-use Rattle.session.specs.Run.{Lent, lent}
+use Rattle.session.specs.Run.{Housed, housed}
 use Rattle.promise.specs.Promise.{Of}
 use Rattle.lines.specs.Text.{linesOf, nodesIn}
 use Rattle.system.specs.declared.File.{File}
@@ -60,7 +60,7 @@ pub record UnreadWithin (s : State) (n : ℕ) : Type 0 where
 
 -- "Nothing is asked of the room's content at begin"
 abbrev pub BegunFor : List ℕ → Session → Type 0
-BegunFor b session = (E N : List ℕ) → Of b [] (lent session E N)
+BegunFor b session = (E N : List ℕ) → Of b [] (housed session E N)
 
 pub record Started (session : Session) : Type 0 where
   pub query : List ℕ
@@ -87,11 +87,11 @@ pub record ReadMore (file : File) (s : State) (input : List ℕ) (s′ : State) 
   pub over : s′ .ended ≡ true → ReadOver file
 
 -- the block that is worked on
-abbrev pub blockOf : State → List ℕ → List ℕ → List ℕ → List ℕ → Fed Lent
-blockOf s input E N out = blockFed (lent (s .session) E N) (unread s input) out
+abbrev pub blockOf : State → List ℕ → List ℕ → List ℕ → List ℕ → Fed Housed
+blockOf s input E N out = blockFed (housed (s .session) E N) (unread s input) out
 
 pub record Worked (s : State) (input E N out : List ℕ) (s′ : State) (E′ N′ : List ℕ) : Type 0 where
-  pub seat-so : lent (s′ .session) E′ N′ ≡ blockOf s input E N out .seat
+  pub seat-so : housed (s′ .session) E′ N′ ≡ blockOf s input E N out .seat
   pub taken-so : s′ .taken ≡ s .taken + blockOf s input E N out .taken
   pub refusal-so : s′ .refusal ≡ blockOf s input E N out .refusal
   pub left : unread s′ input ≡ drop (8 * blockOf s input E N out .taken) (unread s input)
@@ -108,8 +108,8 @@ pub record TurnsSoFar (b : List ℕ) (file : File) (s : State) (input E N : List
   pub bytes : List ℕ
   pub nodes : List ℕ
   pub received : Received file bytes
-  pub offered : Progress b [] bytes (lent (s .session) E N) (s .taken) (s .refusal) nodes
-  pub enough : Enough (lent (s .session) E N)
+  pub offered : Progress b [] bytes (housed (s .session) E N) (s .taken) (s .refusal) nodes
+  pub enough : Enough (housed (s .session) E N)
   pub rest : unread s input ≡ drop (8 * s .taken) bytes
   -- a read has given nothing; then nothing is left over or it was refused
   pub at-end : s .ended ≡ true → ReadOver file
@@ -123,7 +123,7 @@ pub record TurnsSoFar (b : List ℕ) (file : File) (s : State) (input E N : List
 pub record Streamed (b : List ℕ) (file : File) (s : State) (E N : List ℕ) : Type 0 where
   pub bytes : List ℕ
   pub received : Received file bytes
-  pub reached : Of b (offeringAll (decode b) bytes .events) (lent (s .session) E N)
+  pub reached : Of b (offeringAll (decode b) bytes .events) (housed (s .session) E N)
   pub counted : s .taken ≡ length (offeringAll (decode b) bytes .events)
   pub refusal-so : refusalOf (s .refusal) ≡ offeringAll (decode b) bytes .refusal
   pub to-end : ReadOver file ⊎ ((more : List ℕ) → offeringAll (decode b) (bytes ++ more) ≡ offeringAll (decode b) bytes)

@@ -24,7 +24,7 @@ use lib.Dec.{T, eqb, leb, ltb}
 use lib.ListN.{length, take, drop, take-append-drop}
 use borrow.Author.Tests.{eq-eqb, ne-eqb, ltb-false, leb-true}
 use Rattle.choice.specs.Pick.{pick, pick-true, pick-false, pick-known, never}
-use Rattle.right.specs.Closes.{byte-read}
+use Rattle.choice.specs.Count.{boolByte-read}
 use Rattle.meaning.specs.Limits.{elementRecord, waitingRecord, elementsNeeded, nodesNeeded, outputNeeded, heldLimit, nodeLimit}
 use Rattle.meaning.specs.Limits.Laws.{node-limit-is}
 use Rattle.meaning.specs.Refusals.{shortOutput, shortRoom, unfinished}
@@ -35,7 +35,8 @@ use Rattle.meaning.specs.Demands.{counts-add-up}
 use Rattle.meaning.specs.Stream.{Event, run, document, always, Stream}
 use Rattle.meaning.specs.Record.{eventOf}
 use Rattle.meaning.specs.Answer as meaning
-use Rattle.meaning.specs.Answer.{Call, tooSmall, eventRefusals, refusals, firstOr, first, callEvents, yield, answerIf, answer, afterIf, after, accepted, handedBy}
+use Rattle.meaning.specs.Answer.{Call, tooSmall, eventRefusals, refusals, firstOr, first, callEvents, yield, answerIf, answer, afterIf, after}
+use Rattle.meaning.specs.Answer.{accepted, handedBy}
 use Rattle.meaning.specs.Answer.Laws.{act-document, after-stream}
 use Rattle.meaning.specs.Answer.Bounds.{Bounded, after-bounded, accepted-within, handed-within}
 use Rattle.query.specs.Answer as checked
@@ -75,25 +76,25 @@ use Rattle.session.specs.declared.Answer.the-variants.{Refused, Taken}
 use Rattle.session.specs.declared.Finish as finishing
 use Rattle.session.specs.declared.Finish.the-variants as finish-cases
 use Rattle.session.specs.Begin.{fresh, said, Begun, answerOf, sessionFor, begun, BeginGives}
-use Rattle.session.specs.Event.{Done, refused, numbersOf, withNumbers, settled, within, beside, event, EventGives, finish, FinishGives}
+use Rattle.session.specs.Event.{Done, refused, sessionNumbers, withNumbers, settled, within, beside, event, EventGives, finish, FinishGives}
 use Rattle.session.specs.Event.Laws.{event-is}
-use Rattle.session.specs.Run.{Lent, lent}
+use Rattle.session.specs.Run.{Housed, housed}
 use Rattle.session.specs.Told.{told, ended}
 
-pub record SameUsed (l : Lent) (E N : List ℕ) : Type 0 where
+pub record SameUsed (l : Housed) (E N : List ℕ) : Type 0 where
   pub elements : take (elementRecord * l .session .depth) E ≡ take (elementRecord * l .session .depth) (l .elements)
   pub nodes : take (waitingRecord * l .session .held) N ≡ take (waitingRecord * l .session .held) (l .nodes)
 
-pub record Of (b : List ℕ) (es : List Event) (l : Lent) : Type 0 where
+pub record Of (b : List ℕ) (es : List Event) (l : Housed) : Type 0 where
   pub bytes : Bytes b
   pub admitted : answerTo b ≡ checked.admitted
   pub stream : Stream es
   pub bounds : Bounded (decode b) es
   pub kept : keptIn (l .session .kept) ≡ plan (decode b)
-  pub stands : StandsIn (decode b) (document es) (numbersOf (l .session)) (l .elements) (l .nodes)
+  pub stands : StandsIn (decode b) (document es) (sessionNumbers (l .session)) (l .elements) (l .nodes)
 
-unfoldable pub leftBy : Lent → List ℕ → List ℕ → Session → List ℕ → List ℕ → Lent
-leftBy l E N s E′ N′ = pick (tooSmall (length E) (length N)) (lent s (l .elements) (l .nodes)) (lent s E′ N′)
+unfoldable pub leftBy : Housed → List ℕ → List ℕ → Session → List ℕ → List ℕ → Housed
+leftBy l E N s E′ N′ = pick (tooSmall (length E) (length N)) (housed s (l .elements) (l .nodes)) (housed s E′ N′)
 
 -- within the limits the lent records have room
 within-limits : (q : Query) → T (admits q) → length q ≤ 32 → (es : List Event) → Bounded q es → Within q (document es)
@@ -113,7 +114,7 @@ told-buffer k ns out e h =
     ap (λ (n : ℕ). told (Taken n) (buffer ns out)) e ∙ ap meaning.taken (nodesIn-recordsOf ns (drop (4 * length ns) out) h)
 
 -- what the check admits is what the promises ask
-pub ruled : {b : List ℕ} {es : List Event} {l : Lent} → Of b es l → Meant b
+pub ruled : {b : List ℕ} {es : List Event} {l : Housed} → Of b es l → Meant b
 ruled {b} o = meant b (o .bytes) (o .admitted)
 
 -- enough is lent
@@ -129,20 +130,20 @@ room-long E N e = by (ltb (length E) elementsNeeded) (ltb (length N) nodesNeeded
 
 -- the numbers of a session that was given them stand for the same
 stands-numbers :
-    (s : Session) (n : Numbers) (q : Query) (d : Doc) (E : Elements) (N : Queue) → Stands q d n E N → Stands q d (numbersOf (withNumbers s n)) E N
+    (s : Session) (n : Numbers) (q : Query) (d : Doc) (E : Elements) (N : Queue) → Stands q d n E N → Stands q d (sessionNumbers (withNumbers s n)) E N
 unfolding stateIn
 stands-numbers s n q d E N st =
     record {
-      state = same-state refl refl refl refl (byte-read (not (eqb (n .ended) 0))) ∙ st .state;
+      state = same-state refl refl refl refl (boolByte-read (not (eqb (n .ended) 0))) ∙ st .state;
       roomy = st .roomy;
       deep = st .deep;
       few = st .few;
     }
 
 -- room with the records in use stands for the same
-module _ {b : List ℕ} {es : List Event} {l : Lent} (o : Of b es l) where
+module _ {b : List ℕ} {es : List Event} {l : Housed} (o : Of b es l) where
   of-lent :
-      (E N : List ℕ) → elementsNeeded ≤ length E → nodesNeeded ≤ length N → SameUsed l E N → Of b es (lent (l .session) E N)
+      (E N : List ℕ) → elementsNeeded ≤ length E → nodesNeeded ≤ length N → SameUsed l E N → Of b es (housed (l .session) E N)
   of-lent E N longE longN same =
       record {
         bytes = o .bytes;
@@ -151,13 +152,13 @@ module _ {b : List ℕ} {es : List Event} {l : Lent} (o : Of b es l) where
         bounds = o .bounds;
         kept = o .kept;
         stands =
-            stands-lent (decode b) (document es) (numbersOf (l .session)) (l .elements) (l .nodes) E N longE longN (same .elements) (same .nodes)
+            stands-housed (decode b) (document es) (sessionNumbers (l .session)) (l .elements) (l .nodes) E N longE longN (same .elements) (same .nodes)
             (o .stands);
       }
 
 -- an event
 
-module _ {b : List ℕ} {es : List Event} {l : Lent} (o : Of b es l) (bytes E N out : List ℕ)
+module _ {b : List ℕ} {es : List Event} {l : Housed} (o : Of b es l) (bytes E N out : List ℕ)
     (same : tooSmall (length E) (length N) ≡ false → SameUsed l E N) where
   abbrev q : Query
   q = decode b
@@ -181,7 +182,7 @@ module _ {b : List ℕ} {es : List Event} {l : Lent} (o : Of b es l) (bytes E N 
 
   module _ (wide : ltb (length out) outputNeeded ≡ false) (enough : tooSmall (length E) (length N) ≡ false) where
     abbrev n : Numbers
-    n = numbersOf (l .session)
+    n = sessionNumbers (l .session)
 
     abbrev E₀ : List ℕ
     E₀ = take elementsNeeded E
@@ -314,7 +315,7 @@ module _ {b : List ℕ} {es : List Event} {l : Lent} (o : Of b es l) (bytes E N 
 
 -- what is read of a session that calls reach
 
-module _ {b : List ℕ} {es : List Event} {l : Lent} (o : Of b es l) where
+module _ {b : List ℕ} {es : List Event} {l : Housed} (o : Of b es l) where
   abbrev E₁ : Elements
   E₁ = elementsIn (take elementsNeeded (l .elements))
 
@@ -322,19 +323,19 @@ module _ {b : List ℕ} {es : List Event} {l : Lent} (o : Of b es l) where
   N₁ = queueIn (take nodesNeeded (l .nodes))
 
   pub ended-is : l .session .ended ≡ finished (document es)
-  ended-is = sym (byte-read (l .session .ended)) ∙ ended-read (decode b) (document es) (numbersOf (l .session)) E₁ N₁ (o .stands)
+  ended-is = sym (boolByte-read (l .session .ended)) ∙ ended-read (decode b) (document es) (sessionNumbers (l .session)) E₁ N₁ (o .stands)
 
   pub opened-is : l .session .opened ≡ count (document es)
-  opened-is = opened-read (decode b) (document es) (numbersOf (l .session)) E₁ N₁ (o .stands)
+  opened-is = opened-read (decode b) (document es) (sessionNumbers (l .session)) E₁ N₁ (o .stands)
 
   pub handed-is : l .session .handed ≡ length (listed (decode b) (document es))
-  handed-is = handed-read (decode b) (document es) (numbersOf (l .session)) E₁ N₁ (o .stands)
+  handed-is = handed-read (decode b) (document es) (sessionNumbers (l .session)) E₁ N₁ (o .stands)
 
   pub held-is : l .session .held ≡ length (held (decode b) (document es))
-  held-is = held-read (decode b) (document es) (numbersOf (l .session)) E₁ N₁ (o .stands)
+  held-is = held-read (decode b) (document es) (sessionNumbers (l .session)) E₁ N₁ (o .stands)
 
   pub waiting-held : numbers (take (l .session .held) (queueIn (take nodesNeeded (l .nodes)) .list)) ≡ held (decode b) (document es)
-  waiting-held = waiting-read (decode b) (document es) (numbersOf (l .session)) E₁ N₁ (o .stands)
+  waiting-held = waiting-read (decode b) (document es) (sessionNumbers (l .session)) E₁ N₁ (o .stands)
 
   -- finish
   finish-line : (x : Bool) (k h : ℕ) →
@@ -369,7 +370,7 @@ begin-admitted b E N r g told-so =
     (sym (begin-answer b E N r g) ∙ ap said told-so)
 
 pub begin-of :
-    (b E N : List ℕ) (r : given.Begun) → Bytes b → BeginGives b E N r → r .answer ≡ started.Begun → (A B : List ℕ) → Of b [] (lent (r .session) A B)
+    (b E N : List ℕ) (r : given.Begun) → Bytes b → BeginGives b E N r → r .answer ≡ started.Begun → (A B : List ℕ) → Of b [] (housed (r .session) A B)
 unfolding accepted always said document run sessionFor fresh
 begin-of b E N r bytes g told-so A B =
     let ok : answerTo b ≡ checked.admitted = begin-admitted b E N r g told-so in
@@ -382,7 +383,7 @@ begin-of b E N r bytes g told-so A B =
       bounds = accepted-within (decode b) [];
       kept = ap (λ (s : Session). keptIn (s .kept)) is ∙ kept-admitted b bytes ok;
       stands =
-          subst (λ (s : Session). StandsIn (decode b) (document []) (numbersOf s) A B) (sym is)
+          subst (λ (s : Session). StandsIn (decode b) (document []) (sessionNumbers s) A B) (sym is)
           (stands-begun (decode b) (elementsIn (take elementsNeeded A)) (queueIn (take nodesNeeded B))
           (record { elements = frames-length (take elementsNeeded A); nodes = nodes-length (take nodesNeeded B) }));
     }

@@ -17,7 +17,7 @@
 --
 -- The other words are document 01's: ListedBy, HeldBy, SelectedByNone, Selected (crate meaning, Explicit: with explicit nodes and all continuations), answers
 -- and accepted (meaning, Answer), Owed (crate query, Answer), Rising (each number once, in document order). BeginGives, EventGives, FinishGives and RunGives
--- are what `begin`, `event`, `finish` and `run` ensure; Lent (crate session, Run) is a session with the room for it. That refusal 7 is given where more nodes
+-- are what `begin`, `event`, `finish` and `run` ensure; Housed (crate session, Run) is a session with the room for it. That refusal 7 is given where more nodes
 -- would be held than may be is said by `answers`, which counts them by the readings (meaning, Standing); that those are the nodes HeldBy is shown in meaning,
 -- Explicit.Demands. The records are those of crate element and crate node; records in use are the first ones, as many as elements are open and nodes held.
 -- Assumes that a query's bytes are bytes. NOT promised: list, counts and refusals of a session that no calls reach, or of one whose records in use were
@@ -58,7 +58,7 @@ use Rattle.session.specs.declared.Answer.the-variants.{Refused, Taken}
 use Rattle.session.specs.declared.Ran.{Ran}
 use Rattle.session.specs.Begin.{said, BeginGives}
 use Rattle.session.specs.Event.{EventGives, FinishGives}
-use Rattle.session.specs.Run.{Lent, lent, RunGives}
+use Rattle.session.specs.Run.{Housed, housed, RunGives}
 use Rattle.session.specs.Told.{told, ended}
 use Rattle.promise.specs.Promise.{SameUsed, leftBy}
 
@@ -70,25 +70,25 @@ pub data Reply : Type 0 where
   stepped : (r : Step) (E N out : List ℕ) → Reply
   finish : (f : Finish) → Reply
 
-pub data Played : Lent → List Use → List Reply → Lent → Type 0 where
-  unused : {l : Lent} → Played l [] [] l
+pub data Played : Housed → List Use → List Reply → Housed → Type 0 where
+  unused : {l : Housed} → Played l [] [] l
   by-event :
-      {l k : Lent} {bytes E N out E′ N′ out′ : List ℕ} {r : Step} {us : List Use} {rs : List Reply} →
+      {l k : Housed} {bytes E N out E′ N′ out′ : List ℕ} {r : Step} {us : List Use} {rs : List Reply} →
       (tooSmall (length E) (length N) ≡ false → SameUsed l E N) → EventGives (l .session) bytes E N out r E′ N′ out′ →
       Played (leftBy l E N (r .session) E′ N′) us rs k → Played l (offer bytes E N out ∷ us) (stepped r E′ N′ out′ ∷ rs) k
   by-finish :
-      {l k : Lent} {f : Finish} {us : List Use} {rs : List Reply} → FinishGives (l .session) f → Played l us rs k →
+      {l k : Housed} {f : Finish} {us : List Use} {rs : List Reply} → FinishGives (l .session) f → Played l us rs k →
       Played l (ask ∷ us) (finish f ∷ rs) k
 
 -- "Nothing is asked of the room's content at begin"
-pub record Reached (b : List ℕ) (us : List Use) (rs : List Reply) (l : Lent) : Type 0 where
+pub record Reached (b : List ℕ) (us : List Use) (rs : List Reply) (l : Housed) : Type 0 where
   pub bytes : Bytes b
   pub E : List ℕ
   pub N : List ℕ
   pub begun : Begun
   pub begins : BeginGives b E N begun
   pub admitted : begun .answer ≡ started.Begun
-  pub played : Played (lent (begun .session) E N) us rs l
+  pub played : Played (housed (begun .session) E N) us rs l
 
 unfoldable pub callOf : Use → Call
 callOf (offer bytes E N out) = Call.event bytes (record { out = length out; elements = length E; nodes = length N })
@@ -112,7 +112,7 @@ streamOf b us = accepted (decode b) [] (map callOf us)
 abbrev pub nodesOf : List Reply → List ℕ
 nodesOf rs = handedOut (map answerOf rs)
 
-abbrev pub waiting : Lent → List ℕ
+abbrev pub waiting : Housed → List ℕ
 waiting l = numbers (take (l .session .held) (queueIn (take nodesNeeded (l .nodes)) .list))
 
 -- "15 comes before 9 and 10"; "beside a refused query's number stands one fixed blank session"; beside an admitted one stands the session of no uses, of
@@ -124,7 +124,7 @@ pub record Begins (b E N : List ℕ) (r : Begun) : Type 0 where
       (r .answer ≡ started.Begun → ⊥) → (b′ E′ N′ : List ℕ) (r′ : Begun) → BeginGives b′ E′ N′ r′ → (r′ .answer ≡ started.Begun → ⊥) →
       r .session ≡ r′ .session
 
-pub record Promised (b : List ℕ) (us : List Use) (rs : List Reply) (l : Lent) : Type 0 where
+pub record Promised (b : List ℕ) (us : List Use) (rs : List Reply) (l : Housed) : Type 0 where
   -- the answers are the meaning's, one by one; the accepted events are a stream
   pub answered : map answerOf rs ≡ answers (decode b) [] (map callOf us)
   pub stream : Stream (streamOf b us)
@@ -178,7 +178,7 @@ pub data Answered : (taken refusal : ℕ) → List Answer → Type 0 where
 pub record Block (b : List ℕ) (us : List Use) (rs : List Reply) (es E N out : List ℕ) (r : Ran) (A B out′ : List ℕ) : Type 0 where
   pub offers : List Use
   pub replies : List Reply
-  pub left : Lent
+  pub left : Housed
   pub same-session : left .session ≡ r .session
   pub reached : Reached b (us ++ offers) (rs ++ replies) left
   pub goes-on : tooSmall (length E) (length N) ≡ false → SameUsed left A B
@@ -190,9 +190,9 @@ pub record Block (b : List ℕ) (us : List Use) (rs : List Reply) (es E N out : 
 
 pub record Library : Type 0 where
   pub begins : (b E N : List ℕ) (r : Begun) → BeginGives b E N r → Begins b E N r
-  pub keeps : {b : List ℕ} {us : List Use} {rs : List Reply} {l : Lent} → Reached b us rs l → Promised b us rs l
+  pub keeps : {b : List ℕ} {us : List Use} {rs : List Reply} {l : Housed} → Reached b us rs l → Promised b us rs l
   pub blocks :
-      {b : List ℕ} {us : List Use} {rs : List Reply} {l : Lent} → Reached b us rs l → (es E N out : List ℕ) →
+      {b : List ℕ} {us : List Use} {rs : List Reply} {l : Housed} → Reached b us rs l → (es E N out : List ℕ) →
       (tooSmall (length E) (length N) ≡ false → SameUsed l E N) → (r : Ran) (A B out′ : List ℕ) → RunGives (l .session) es E N out r A B out′ →
       Block b us rs es E N out r A B out′
   pub same :
@@ -200,13 +200,13 @@ pub record Library : Type 0 where
       Same s bytes E N out r E′ N′ out′
   -- so it is after each of the uses: a first part of them is a sequence of uses too
   pub first-part :
-      {b : List ℕ} (us us′ : List Use) {rs : List Reply} {l : Lent} → Reached b (us ++ us′) rs l →
-      (rs₁ : List Reply) × (rs₂ : List Reply) × (k : Lent) × Reached b us rs₁ k × Played k us′ rs₂ l × (rs ≡ rs₁ ++ rs₂)
+      {b : List ℕ} (us us′ : List Use) {rs : List Reply} {l : Housed} → Reached b (us ++ us′) rs l →
+      (rs₁ : List Reply) × (rs₂ : List Reply) × (k : Housed) × Reached b us rs₁ k × Played k us′ rs₂ l × (rs ≡ rs₁ ++ rs₂)
   -- every call has a result, whatever it is given, and no other; so every sequence of uses has replies, and no others
   pub some-begin : (b E N : List ℕ) → (r : Begun) × BeginGives b E N r
   pub some-event :
       (s : Session) (bytes E N out : List ℕ) → (r : Step) × (E′ : List ℕ) × (N′ : List ℕ) × (out′ : List ℕ) × EventGives s bytes E N out r E′ N′ out′
   pub some-finish : (s : Session) → (f : Finish) × FinishGives s f
   pub one :
-      (b E N : List ℕ) (r r′ : Begun) {us : List Use} {rs rs′ : List Reply} {l l′ : Lent} → BeginGives b E N r → BeginGives b E N r′ →
-      Played (lent (r .session) E N) us rs l → Played (lent (r′ .session) E N) us rs′ l′ → (r ≡ r′) × (rs ≡ rs′) × (l ≡ l′)
+      (b E N : List ℕ) (r r′ : Begun) {us : List Use} {rs rs′ : List Reply} {l l′ : Housed} → BeginGives b E N r → BeginGives b E N r′ →
+      Played (housed (r .session) E N) us rs l → Played (housed (r′ .session) E N) us rs′ l′ → (r ≡ r′) × (rs ≡ rs′) × (l ≡ l′)

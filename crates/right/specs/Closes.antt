@@ -20,11 +20,11 @@ use lib.Dec.{eqb, ltb}
 use lib.ListN.{length, getD, take, drop, length-append, length-map, length-drop, take-append-drop, List·getD-map}
 use lib.Seq.{take-suc, take-at, drop-at, take-take, getD-take, length-take-le}
 use borrow.Author.Tests.{lt-ltb, le-ltb}
-use Rattle.choice.specs.Count.{down}
+use Rattle.choice.specs.Count.{down, boolByte-read}
 use Rattle.meaning.specs.Limits.{heldLimit, nodeLimit}
 use Rattle.meaning.specs.Limits.Laws.{held-is, node-limit-is}
 use Rattle.plan.specs.Plan.{Plan}
-use Rattle.engine.specs.Quick.{Frame, Waiting, State, metAt, possAt, wentIf, Cut, cut, stay, closingFrom, closingAt, closing, closes, quickClose}
+use Rattle.engine.specs.Quick.{Frame, Waiting, State, metAt, possibleAt, wentIf, Cut, cut, stay, closingFrom, closingAt, closing, closes, quickClose}
 use Rattle.engine.specs.Quick.Lists.{cut-append}
 use Rattle.engine.specs.Quick.Snoc.{went-le, stay-le}
 use Rattle.records.specs.Write.{buffer}
@@ -49,10 +49,6 @@ ltb-add a x y = go (decLt x y)
     go (yes l) = lt-ltb (a + x) (a + y) (omega arith) ∙ sym (lt-ltb x y l)
     go (no f) = let h : y ≤ x = omega arith in le-ltb (a + x) (a + y) (omega arith) ∙ sym (le-ltb x y h)
 
-pub byte-read : (b : Bool) → not (eqb (boolByte b) 0) ≡ b
-byte-read true = refl
-byte-read false = refl
-
 module _ (P : Plan) (n : Numbers) (E : Elements) (N : Queue) (room : Roomy E N) (fits : CloseFits n) where
   abbrev s : State
   s = stateIn n E N
@@ -75,7 +71,7 @@ module _ (P : Plan) (n : Numbers) (E : Elements) (N : Queue) (room : Roomy E N) 
   met = frameAt E (n .depth - 1) .met
 
   abbrev ready : ℕ
-  ready = possAt P (E .list) (n .depth - 1)
+  ready = possibleAt P (E .list) (n .depth - 1)
 
   met-read : metAt fs (length fs) ≡ met
   unfolding metAt
@@ -87,10 +83,10 @@ module _ (P : Plan) (n : Numbers) (E : Elements) (N : Queue) (room : Roomy E N) 
   above : pred (length fs) ≡ n .depth - 1
   above = sym (sub-one (length fs)) ∙ ap (λ k. k - 1) fs-length
 
-  poss-read : possAt P fs (n .depth - 1) ≡ ready
-  poss-read =
+  possible-read : possibleAt P fs (n .depth - 1) ≡ ready
+  possible-read =
       sym
-      (ap (λ l. possAt P l (n .depth - 1)) (sym (take-append-drop (n .depth) (E .list)))
+      (ap (λ l. possibleAt P l (n .depth - 1)) (sym (take-append-drop (n .depth) (E .list)))
       ∙ possible-front P fs (drop (n .depth) (E .list)) (n .depth - 1) (omega (arith, fs-length)))
 
   last-gone : dropLast fs ≡ take (n .depth - 1) (E .list)
@@ -121,7 +117,7 @@ module _ (P : Plan) (n : Numbers) (E : Elements) (N : Queue) (room : Roomy E N) 
   unfolding closing closingAt closingFrom stateIn
   closing-is =
       ap₂ (λ l k. closingAt P s l (cut levelOf k ws)) above fs-length
-      ∙ ap₂ (λ m r. closingFrom P (dropLast fs) (c .before) (c .from) (stay P m (n .depth - 1) r (c .from))) met-read poss-read
+      ∙ ap₂ (λ m r. closingFrom P (dropLast fs) (c .before) (c .from) (stay P m (n .depth - 1) r (c .from))) met-read possible-read
       ∙ ap (λ gs. closingFrom P gs (c .before) (c .from) stays) last-gone
 
   parts : ws ≡ c .before ++ c .from
@@ -188,7 +184,7 @@ module _ (P : Plan) (n : Numbers) (E : Elements) (N : Queue) (room : Roomy E N) 
           refusal = refl;
           state =
               same-state refl (shifted-took Q went left (omega (arith, Q-length, left-few, fits .held)) went-few ∙ ap (drop went) Q-took) refl handed-is
-              (byte-read (eqb (n .depth - 1) 0)
+              (boolByte-read (eqb (n .depth - 1) 0)
               ∙ ap (λ k. eqb k 0) (sym (length-take-le (n .depth - 1) (E .list) (omega (arith, fits .deep, room .elements)))));
           given = sym gone ∙ sym (length-map (take went waiting) (λ v. v .node));
           written = ap (λ l. buffer (numbers l) out) (sym (take-take went left (Q .list) went-few) ∙ ap (take went) Q-took);

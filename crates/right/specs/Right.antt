@@ -246,7 +246,8 @@ module _ (q : Query) (d : Doc) (w : Within q d) (n : Numbers) (E : Elements) (N 
   open-right x =
       subst (Owed (some (Stream.opens x)))
       (sym
-      (ap₂ (λ r b. pick (eqb r 0) (pick b (refusedWith tooManyHeld n E N out) (openTaken (plan q) x n E N out)) (refusedWith r n E N out)) open-rows (over-is x)))
+      (ap₂ (λ r b. pick (eqb r 0) (pick b (refusedWith tooManyHeld n E N out) (openTaken (plan q) x n E N out)) (refusedWith r n E N out)) open-rows
+      (over-is x)))
       (owed-rows (some (Stream.opens x)) _ _
       (open-table q d (some (Stream.opens x)) n E N out (finished d) (leb depthLimit (depth d)) (leb nodeLimit (count d))
       (ltb heldLimit (length (held q (opened (record { name = x }) d)))) (openTaken (plan q) x n E N out) (open-taken x)))

@@ -111,7 +111,7 @@ module _ (q : Query) (few : length q ≤ 32) where
   frame-small f h (suc (suc (suc zero))) =
       under (length (plan q .tests)) (meets-under (plan q) (named (plan q) (f .node .name)) (masks q .below (f .below))) (omega (arith, plan-size q))
   frame-small f h (suc (suc (suc (suc zero)))) = path-small (f .sure .steps)
-  frame-small f h (suc (suc (suc (suc (suc zero))))) = path-small (f .poss .steps)
+  frame-small f h (suc (suc (suc (suc (suc zero))))) = path-small (f .possible .steps)
   frame-small f h (suc (suc (suc (suc (suc (suc g)))))) = omega arith
 
   named-frames : {d : Doc} → Named d → (rs rp : Ready) → Every (λ f. f .node .name ≤ lastName) (framesOf q d rs rp)

@@ -3,7 +3,7 @@
 --   Done                     an event's answer, the next session, and all that was lent, byte for byte
 --   refused n s E N out      a refusal: all as it was
 --   refuseLent out E N       the refusal for what is lent, by its lengths, or 0;  LentFits: what is known where it is 0
---   numbersOf s, withNumbers s n       the session's numbers; the same session with the numbers n
+--   sessionNumbers s, withNumbers s n       the session's numbers; the same session with the numbers n
 --   settled s E N out c      what a step that came to c leaves in the room that is needed
 --   within s bytes E N out   an event on the room that is needed
 --   event s bytes E N out    an event, by its bytes, on any room
@@ -58,8 +58,8 @@ pub record LentFits (out elements nodes : ℕ) : Type 0 where
   pub deep : elementsNeeded ≤ elements
   pub held : nodesNeeded ≤ nodes
 
-abbrev pub numbersOf : Session → Numbers
-numbersOf s = numbers.numbersOf (s .depth) (s .held) (s .opened) (s .handed) (boolByte (s .ended))
+abbrev pub sessionNumbers : Session → Numbers
+sessionNumbers s = numbers.numbersOf (s .depth) (s .held) (s .opened) (s .handed) (boolByte (s .ended))
 
 abbrev pub withNumbers : Session → Numbers → Session
 withNumbers s n =
@@ -86,7 +86,7 @@ settled s E N out c =
     (refused (c .refusal) s E N out)
 
 unfoldable pub within : Session → List ℕ → List ℕ → List ℕ → List ℕ → Done
-within s bytes E N out = settled s E N out (stepAt (keptIn (s .kept)) (seat (numbersOf s) E N) bytes out)
+within s bytes E N out = settled s E N out (stepAt (keptIn (s .kept)) (seat (sessionNumbers s) E N) bytes out)
 
 -- the bytes past the needed ones are never touched
 abbrev pub beside : List ℕ → List ℕ → Done → Done

@@ -1,6 +1,6 @@
 -- What a block of events answers: the same as single events one after the other.
 --
---   Lent, lent s E N         what an event is taken at: the session and the lent room
+--   Housed, housed s E N         what an event is taken at: the session and the lent room
 --   refusalOf a, givenOf a   an answer's refusal number, or 0, and how many nodes it hands out
 --   eventAt l bytes out      one event (Event), as what one event comes to
 --   ran r E N out            a result of `run` and all that was lent, as what a block comes to
@@ -21,15 +21,15 @@ use Rattle.session.specs.declared.Session.{Session}
 use Rattle.session.specs.declared.Answer.{Answer}
 use Rattle.session.specs.declared.Answer.the-variants.{Refused, Taken}
 use Rattle.session.specs.declared.Ran.{Ran}
-use Rattle.session.specs.Event.{Done, numbersOf, withNumbers, event}
+use Rattle.session.specs.Event.{Done, sessionNumbers, withNumbers, event}
 
-pub record Lent : Type 0 where
+pub record Housed : Type 0 where
   pub session : Session
   pub elements : List ℕ
   pub nodes : List ℕ
 
-abbrev pub lent : Session → List ℕ → List ℕ → Lent
-lent s E N = record { session = s; elements = E; nodes = N }
+abbrev pub housed : Session → List ℕ → List ℕ → Housed
+housed s E N = record { session = s; elements = E; nodes = N }
 
 unfoldable pub refusalOf : Answer → ℕ
 refusalOf (Refused n) = n
@@ -39,20 +39,20 @@ unfoldable pub givenOf : Answer → ℕ
 givenOf (Refused n) = 0
 givenOf (Taken k) = k
 
-abbrev pub cameTo : Done → Came Lent
-cameTo d =
-    record { refusal = refusalOf (d .answer); given = givenOf (d .answer); seat = lent (d .session) (d .elements) (d .nodes); out = d .out }
+abbrev pub cameAs : Done → Came Housed
+cameAs d =
+    record { refusal = refusalOf (d .answer); given = givenOf (d .answer); seat = housed (d .session) (d .elements) (d .nodes); out = d .out }
 
-unfoldable pub eventAt : Lent → List ℕ → List ℕ → Came Lent
-eventAt l bytes out = cameTo (event (l .session) bytes (l .elements) (l .nodes) out)
+unfoldable pub eventAt : Housed → List ℕ → List ℕ → Came Housed
+eventAt l bytes out = cameAs (event (l .session) bytes (l .elements) (l .nodes) out)
 
-abbrev pub ran : Ran → List ℕ → List ℕ → List ℕ → Fed Lent
-ran r E N out = record { seat = lent (r .session) E N; taken = r .taken; listed = r .listed; refusal = r .refusal; out = out }
+abbrev pub ran : Ran → List ℕ → List ℕ → List ℕ → Fed Housed
+ran r E N out = record { seat = housed (r .session) E N; taken = r .taken; listed = r .listed; refusal = r .refusal; out = out }
 
-unfoldable pub runWithin : Session → List ℕ → List ℕ → List ℕ → List ℕ → Fed Lent
+unfoldable pub runWithin : Session → List ℕ → List ℕ → List ℕ → List ℕ → Fed Housed
 runWithin s es E N out =
-    allAcross (λ (t : Seat). lent (withNumbers s (t .numbers)) (t .elements) (t .nodes))
-    (fed (stepAt (keptIn (s .kept))) (length es / 8) (seat (numbersOf s) E N) es out)
+    allAcross (λ (t : Seat). housed (withNumbers s (t .numbers)) (t .elements) (t .nodes))
+    (fed (stepAt (keptIn (s .kept))) (length es / 8) (seat (sessionNumbers s) E N) es out)
 
 abbrev pub RunGives : Session → List ℕ → List ℕ → List ℕ → List ℕ → Ran → List ℕ → List ℕ → List ℕ → Type 0
-RunGives s es E N out r E′ N′ out′ = ran r E′ N′ out′ ≡ fed eventAt (length es / 8) (lent s E N) es out
+RunGives s es E N out r E′ N′ out′ = ran r E′ N′ out′ ≡ fed eventAt (length es / 8) (housed s E N) es out

@@ -6,7 +6,7 @@ ghost use lib.ListN.{length};
 ghost use Rattle.meaning.specs.Limits.{outputNeeded, elementsNeeded, nodesNeeded};
 ghost use Rattle.numbers.specs.Numbers.{numbersRoom, numbersIn};
 ghost use Rattle.session.specs.Begin.{fresh, BeginGives};
-ghost use Rattle.session.specs.Event.{refuseLent, LentFits, numbersOf, withNumbers, within, EventGives, FinishGives};
+ghost use Rattle.session.specs.Event.{refuseLent, LentFits, sessionNumbers, withNumbers, within, EventGives, FinishGives};
 ghost use Rattle.session.specs.Run.{ran, runWithin, RunGives};
 use plan::Plan;
 use query::QueryAnswer;
@@ -138,7 +138,7 @@ impl Session {
     // The session's numbers in bytes.
     fn lay(self, numbers: &mut [u8])
         requires { ⌜ length (now numbers) ≡ numbersRoom ⌝ }
-        ensures { λ r. ⌜ numbersIn (now (numbers .exit)) ≡ numbersOf self ⌝ }
+        ensures { λ r. ⌜ numbersIn (now (numbers .exit)) ≡ sessionNumbers self ⌝ }
     {
         numbers::write(
             numbers,

@@ -31,7 +31,7 @@ use Rattle.meaning.specs.Refusals.{badRecord, afterEnd, wrongClose, tooDeep, to
 use Rattle.records.specs.declared.Event.{Event}
 use Rattle.records.specs.declared.Event.the-variants.{Open, Close, Bad}
 use Rattle.plan.specs.Plan.{Plan}
-use Rattle.engine.specs.Quick.{State, Opening, opening, over, possAt, cut, wentIf}
+use Rattle.engine.specs.Quick.{State, Opening, opening, over, possibleAt, cut, wentIf}
 use Rattle.element.specs.Element.{Elements, frameAt}
 use Rattle.elements.specs.Elements as elements
 use Rattle.node.specs.Node.{Queue}
@@ -136,7 +136,7 @@ closeNumbers n held given =
 
 -- where the nodes of the innermost element begin
 abbrev pub movedOutFrom : Plan → ℕ → ℕ → Elements → Queue → ℕ → Moved
-movedOutFrom P depth held E N from = movedFrom P (frameAt E (depth - 1) .met) (possAt P (E .list) (depth - 1)) (depth - 1) held from from N
+movedOutFrom P depth held E N from = movedFrom P (frameAt E (depth - 1) .met) (possibleAt P (E .list) (depth - 1)) (depth - 1) held from from N
 
 unfoldable pub movedOut : Plan → ℕ → ℕ → Elements → Queue → Moved
 movedOut P depth held E N = movedOutFrom P depth held E N (length (cut levelOf depth (take held (N .list)) .before))

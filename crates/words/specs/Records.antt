@@ -8,7 +8,7 @@
 --   Records A           all records: as A, used or not, and their spare numbers
 --   recordsOf S ws, recordsIn S bs      those of numbers, and of bytes
 --   at S R i            record i;  setAt i a R: record i is a;  putAt S i g v R: field g of record i is v
---   numbersOf S R, laid S R       the numbers of the records R, and their bytes
+--   laidNumbers S R, laid S R       the numbers of the records R, and their bytes
 --
 -- Assumes nothing. NOT here: what writing a number does to records, and that laid undoes recordsIn (Records.Laws).
 pub mod Laws
@@ -65,8 +65,8 @@ module _ {A : Type 0} where
     unfoldable pub numberAt : Records A → ℕ → ℕ → ℕ
     numberAt R i g = pick (ltb g (S .fields)) (S .field g (at R i)) (getD (getD (R .spare) i []) (g - S .fields) 0)
 
-    unfoldable pub numbersOf : Records A → List ℕ
-    numbersOf R = rows (S .wide * S .count) (λ j. numberAt R (j / S .wide) (j % S .wide))
+    unfoldable pub laidNumbers : Records A → List ℕ
+    laidNumbers R = rows (S .wide * S .count) (λ j. numberAt R (j / S .wide) (j % S .wide))
 
     unfoldable pub laid : Records A → List ℕ
-    laid R = bytesOf (numbersOf R)
+    laid R = bytesOf (laidNumbers R)

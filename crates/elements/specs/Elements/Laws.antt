@@ -17,7 +17,7 @@ use Rattle.choice.specs.Count.{left, gone, down}
 use Rattle.meaning.specs.Limits.{depthLimit}
 use Rattle.sets.specs.Set.{join, meet, without}
 use Rattle.plan.specs.Plan.{Plan, named, meets, lift, turn}
-use Rattle.engine.specs.Quick.{Frame, Rise, raised, rise, refreshed, refresh, fresh, framesAfter, sureAt, possAt}
+use Rattle.engine.specs.Quick.{Frame, Rise, raised, rise, refreshed, refresh, fresh, framesAfter, sureAt, possibleAt}
 use Rattle.engine.specs.Quick.Snoc.{rise-snoc-stop, rise-snoc-on, rise-length}
 use Rattle.element.specs.Element.{Elements, elementsIn, noFrame, frameAt, raisedIn, refreshedIn, openedIn}
 use Rattle.element.specs.Element.Laws.{frames-length}
@@ -127,19 +127,19 @@ module _ (P : Plan) (fs : List Frame) where
   unfolding sureAt
   sure-first level r z e = e ∙ ap (λ l. getD (P .first ∷ map (λ f. f .sure) fs) l 0) (sym z)
 
-  pub possible-first : (level r : ℕ) → level ≡ 0 → r ≡ P .first → r ≡ possAt P fs level
-  unfolding possAt
-  possible-first level r z e = e ∙ ap (λ l. getD (P .first ∷ map (λ f. f .poss) fs) l 0) (sym z)
+  pub possible-first : (level r : ℕ) → level ≡ 0 → r ≡ P .first → r ≡ possibleAt P fs level
+  unfolding possibleAt
+  possible-first level r z e = e ∙ ap (λ l. getD (P .first ∷ map (λ f. f .possible) fs) l 0) (sym z)
 
   pub sure-other : (level r : ℕ) → 0 < level → r ≡ getD fs (level - 1) noFrame .sure → r ≡ sureAt P fs level
   unfolding sureAt
   sure-other level r h e =
       e ∙ sym (List·getD-map (λ f. f .sure) fs (level - 1) noFrame) ∙ ap (λ l. getD (P .first ∷ map (λ f. f .sure) fs) l 0) (sym (down level h))
 
-  pub possible-other : (level r : ℕ) → 0 < level → r ≡ getD fs (level - 1) noFrame .poss → r ≡ possAt P fs level
-  unfolding possAt
+  pub possible-other : (level r : ℕ) → 0 < level → r ≡ getD fs (level - 1) noFrame .possible → r ≡ possibleAt P fs level
+  unfolding possibleAt
   possible-other level r h e =
-      e ∙ sym (List·getD-map (λ f. f .poss) fs (level - 1) noFrame) ∙ ap (λ l. getD (P .first ∷ map (λ f. f .poss) fs) l 0) (sym (down level h))
+      e ∙ sym (List·getD-map (λ f. f .possible) fs (level - 1) noFrame) ∙ ap (λ l. getD (P .first ∷ map (λ f. f .possible) fs) l 0) (sym (down level h))
 
   -- what is read at a level is read off the elements up to it
   pub sure-front : (gs : List Frame) (level : ℕ) → level ≤ length fs → sureAt P (fs ++ gs) level ≡ sureAt P fs level
@@ -148,11 +148,11 @@ module _ (P : Plan) (fs : List Frame) where
       ap (λ xs. getD (P .first ∷ xs) level 0) (map-append (λ f. f .sure) fs gs)
       ∙ List·getD-append (P .first ∷ map (λ f. f .sure) fs) (map (λ f. f .sure) gs) 0 level (omega (arith, length-map fs (λ f. f .sure)))
 
-  pub possible-front : (gs : List Frame) (level : ℕ) → level ≤ length fs → possAt P (fs ++ gs) level ≡ possAt P fs level
-  unfolding possAt
+  pub possible-front : (gs : List Frame) (level : ℕ) → level ≤ length fs → possibleAt P (fs ++ gs) level ≡ possibleAt P fs level
+  unfolding possibleAt
   possible-front gs level h =
-      ap (λ xs. getD (P .first ∷ xs) level 0) (map-append (λ f. f .poss) fs gs)
-      ∙ List·getD-append (P .first ∷ map (λ f. f .poss) fs) (map (λ f. f .poss) gs) 0 level (omega (arith, length-map fs (λ f. f .poss)))
+      ap (λ xs. getD (P .first ∷ xs) level 0) (map-append (λ f. f .possible) fs gs)
+      ∙ List·getD-append (P .first ∷ map (λ f. f .possible) fs) (map (λ f. f .possible) gs) 0 level (omega (arith, length-map fs (λ f. f .possible)))
 
 -- the calls of a push
 
@@ -203,7 +203,7 @@ module _ (P : Plan) (x depth : ℕ) (E : Elements) (fits : depth < length (E .li
       ∙ ap (λ l. with l E) (sym (append-assoc ks (refresh P s rs) zs))
 
   push-all :
-      (p m possible top around : ℕ) (E₁ E₂ E₃ : Elements) → p ≡ named P x → m ≡ meet p (P .plain) → possible ≡ turn P p (possAt P (E .list) depth) →
+      (p m possible top around : ℕ) (E₁ E₂ E₃ : Elements) → p ≡ named P x → m ≡ meet p (P .plain) → possible ≡ turn P p (possibleAt P (E .list) depth) →
       _≡_ {A = Risen} (record { top = top; elements = E₁ }) (risenIn P (without m (P .main)) depth E) → around ≡ sureAt P (E₁ .list) top →
       E₂ ≡ openedIn depth x p m possible E₁ → E₃ ≡ refreshedFrom P around top (depth + 1) E₂ →
       _≡_ {A = Risen} (record { top = top; elements = E₃ }) (pushedIn P x depth E)
@@ -214,15 +214,15 @@ module _ (P : Plan) (x depth : ℕ) (E : Elements) (fits : depth < length (E .li
       let r : _≡_ {A = Risen} (record { top = top; elements = E₁ }) (risenBy depth E risen) = er ∙ ap (λ n. risenIn P (without n (P .main)) depth E) pm in
       let t : top ≡ length (risen .kept) = ap (λ (y : Risen). y .top) r in
       let one : E₁ ≡ with (all ++ drop depth l) E = ap (λ (y : Risen). y .elements) r in
-      let new : Frame = fresh P x (possAt P fs (length fs)) in
-      let o : possible ≡ turn P (named P x) (possAt P fs (length fs)) =
+      let new : Frame = fresh P x (possibleAt P fs (length fs)) in
+      let o : possible ≡ turn P (named P x) (possibleAt P fs (length fs)) =
       eo
       ∙ ap₂ (λ q k. turn P q k) ep
-      (ap (λ k. possAt P k depth) (sym (take-append-drop depth l)) ∙ possible-front P fs (drop depth l) depth (omega (arith, fs-length))
-      ∙ ap (possAt P fs) (sym fs-length)) in
-      let n : record { name = x; pass = p; below = 0; met = m; sure = 0; poss = possible } ≡ new =
-      ap₂ (λ (a b : ℕ). record { name = x; pass = a; below = 0; met = b; sure = 0; poss = possible }) ep pm
-      ∙ ap (λ (b : ℕ). record { name = x; pass = named P x; below = 0; met = meet (named P x) (P .plain); sure = 0; poss = b }) o in
+      (ap (λ k. possibleAt P k depth) (sym (take-append-drop depth l)) ∙ possible-front P fs (drop depth l) depth (omega (arith, fs-length))
+      ∙ ap (possibleAt P fs) (sym fs-length)) in
+      let n : record { name = x; pass = p; below = 0; met = m; sure = 0; possible = possible } ≡ new =
+      ap₂ (λ (a b : ℕ). record { name = x; pass = a; below = 0; met = b; sure = 0; possible = possible }) ep pm
+      ∙ ap (λ (b : ℕ). record { name = x; pass = named P x; below = 0; met = meet (named P x) (P .plain); sure = 0; possible = b }) o in
       let s : ℕ = sureAt P (risen .kept) (length (risen .kept)) in
       let u : around ≡ s =
       ea ∙ ap₂ (λ k i. sureAt P k i) (ap (λ (y : Elements). y .list) one ∙ append-assoc (risen .kept) (risen .risen) (drop depth l)) t
@@ -234,7 +234,8 @@ module _ (P : Plan) (x depth : ℕ) (E : Elements) (fits : depth < length (E .li
 
 pub push-parts :
     (P : Plan) (x depth : ℕ) (bs : List ℕ) → depth < depthLimit → (p plain around possible news top sure : ℕ) (E₁ E₂ E₃ : Elements) →
-    p ≡ named P x → plain ≡ P .plain → around ≡ possAt P (elementsIn bs .list) depth → possible ≡ turn P p around → news ≡ without (meet p plain) (P .main) →
+    p ≡ named P x → plain ≡ P .plain → around ≡ possibleAt P (elementsIn bs .list) depth → possible ≡ turn P p around →
+    news ≡ without (meet p plain) (P .main) →
     _≡_ {A = Risen} (record { top = top; elements = E₁ }) (risenIn P news depth (elementsIn bs)) → sure ≡ sureAt P (E₁ .list) top →
     E₂ ≡ openedIn depth x p (meet p plain) possible E₁ → E₃ ≡ refreshedFrom P sure top (depth + 1) E₂ →
     _≡_ {A = Risen} (record { top = top; elements = E₃ }) (pushedIn P x depth (elementsIn bs))

@@ -20,19 +20,19 @@ use Rattle.sets.specs.Set.{overlaps}
 use Rattle.engine.specs.Every.{Every, every-map, every-both, every-append, every-left, every-right, every-keep, every-mapped, every-same}
 use Rattle.engine.specs.Need.{NeedOf, itself, one-of}
 use Rattle.engine.specs.Engine as Engine
-use Rattle.engine.specs.Engine.{Ops, keep, front, past, isLevel, posses, stands, alive, settle, exact, moveIf, move, moveWaiting, closeModel}
+use Rattle.engine.specs.Engine.{Ops, keep, front, past, isLevel, possibles, stands, alive, settle, exact, moveIf, move, moveWaiting, closeModel}
 use Rattle.engine.specs.Hom.{keep-hom, front-hom, past-hom, map-dropLast}
 use Rattle.plan.specs.Plan.{Plan, plan, upIf}
 use Rattle.plan.specs.Plan as Plan
 use Rattle.engine.specs.MaskOps.{value, maskOps, maskState}
 use Rattle.engine.specs.MaskOps as MaskOps
 use Rattle.engine.specs.MaskOps.Laws.{mask-close}
-use Rattle.engine.specs.Quick.{Frame, Waiting, possAt, certain, counted, Cut, cut, moved, stay, Closing, wentIf, closingFrom, closingAt, closing}
+use Rattle.engine.specs.Quick.{Frame, Waiting, possibleAt, certain, counted, Cut, cut, moved, stay, Closing, wentIf, closingFrom, closingAt, closing}
 use Rattle.engine.specs.Quick.Of.{frameShown, needShown, waitingShown, quickState}
 use Rattle.engine.specs.Quick.Lists.{front-take, past-drop, counted-hom, keep-append, keep-whole, keep-length}
 use Rattle.engine.specs.Quick.Lists.{cut-append, cut-from, cut-hom, cut-before}
 use Rattle.engine.specs.Quick.Kept.{Turned, turned-masks}
-use Rattle.engine.specs.Quick.Lookup.{SoundNeed, Sound, poss-steps, certain-shown, went-counted, exact-met}
+use Rattle.engine.specs.Quick.Lookup.{SoundNeed, Sound, possible-steps, certain-shown, went-counted, exact-met}
 use Rattle.engine.specs.Quick.Waits.{Own, kept-every, alive-sound, queue-layers, queue-alive, queue-sound, queue-first, close-certain, length-masks}
 
 -- levels
@@ -167,11 +167,11 @@ module _ (q : Query) (a : T (admits q)) (d : Doc) (o : T (isOpen d)) where
   -- who is alive
 
   alive-before : (w : W) → w .place .level < length fs → alive O H w ≡ alive O fs w
-  unfolding alive stands posses
-  alive-before w k = ap (λ r. value r (w .place .need)) (dropLast-at (λ f. f .poss) fs (O .start) (O .start) (w .place .level) k)
+  unfolding alive stands possibles
+  alive-before w k = ap (λ r. value r (w .place .need)) (dropLast-at (λ f. f .possible) fs (O .start) (O .start) (w .place .level) k)
 
-  abbrev poss : ℕ
-  poss = possAt P (shown fs) l
+  abbrev possible : ℕ
+  possible = possibleAt P (shown fs) l
 
   abbrev lifted : W → W
   lifted w = record { number = w .number; place = record { level = l; need = O .up M (w .place .need) } }
@@ -179,16 +179,16 @@ module _ (q : Query) (a : T (admits q)) (d : Doc) (o : T (isOpen d)) where
   under : l < length fs
   under = rw (← top) (le-refl (suc l))
 
-  alive-top : (w : W) → alive O H (lifted w) ≡ overlaps (needShown (O .up M (w .place .need))) poss
-  unfolding alive stands posses
+  alive-top : (w : W) → alive O H (lifted w) ≡ overlaps (needShown (O .up M (w .place .need))) possible
+  unfolding alive stands possibles
   alive-top w =
       up-overlaps P M _ (w .place .need)
       ∙ ap (overlaps (needShown (O .up M (w .place .need))))
-      (ap (λ r. r .steps) (dropLast-at (λ f. f .poss) fs (O .start) (O .start) l under) ∙ (unfold posses in poss-steps P fs l (le-of-lt under)))
+      (ap (λ r. r .steps) (dropLast-at (λ f. f .possible) fs (O .start) (O .start) l under) ∙ (unfold possibles in possible-steps P fs l (le-of-lt under)))
 
-  alive-moved : (w : W) → w .place .level ≡ length fs → alive O H (h w) ≡ overlaps (waitingShown (h w) .need) poss
+  alive-moved : (w : W) → w .place .level ≡ length fs → alive O H (h w) ≡ overlaps (waitingShown (h w) .need) possible
   alive-moved w k =
-      ap (alive O H) (move-on w k) ∙ alive-top w ∙ ap (λ v. overlaps (waitingShown v .need) poss) (sym (move-on w k))
+      ap (alive O H) (move-on w k) ∙ alive-top w ∙ ap (λ v. overlaps (waitingShown v .need) possible) (sym (move-on w k))
 
   abbrev ks : List W
   ks = K .before ++ keep (alive O H) (map h (K .from))
@@ -208,16 +208,16 @@ module _ (q : Query) (a : T (admits q)) (d : Doc) (o : T (isOpen d)) where
       ap waitingShown (move-on w k)
       ∙ ap (λ n. record { node = w .number; level = l; need = n }) (up-shown P M (w .place .level) (w .place .need) (s .needs))
 
-  stays-shown : map waitingShown (keep (alive O H) (map h (K .from))) ≡ stay P M l poss (map waitingShown (K .from))
+  stays-shown : map waitingShown (keep (alive O H) (map h (K .from))) ≡ stay P M l possible (map waitingShown (K .from))
   unfolding stay
   stays-shown =
-      keep-hom waitingShown (alive O H) (λ w. overlaps (w .need) poss) (every-mapped h (every-map alive-moved from-top))
-      ∙ ap (keep (λ w. overlaps (w .need) poss))
+      keep-hom waitingShown (alive O H) (λ w. overlaps (w .need) possible) (every-mapped h (every-map alive-moved from-top))
+      ∙ ap (keep (λ w. overlaps (w .need) possible))
       (map-map waitingShown h (K .from)
       ∙ every-same (every-both moved-shown from-top (from-of (queue-sound q a d)))
       ∙ sym (map-map (moved P M l) waitingShown (K .from)))
 
-  ks-shown : map waitingShown ks ≡ map waitingShown (K .before) ++ stay P M l poss (map waitingShown (K .from))
+  ks-shown : map waitingShown ks ≡ map waitingShown (K .before) ++ stay P M l possible (map waitingShown (K .from))
   ks-shown = map-append waitingShown (K .before) _ ∙ ap (λ x. map waitingShown (K .before) ++ x) stays-shown
 
   -- who is certain
@@ -273,7 +273,7 @@ module _ (q : Query) (a : T (admits q)) (d : Doc) (o : T (isOpen d)) where
   from = map waitingShown (K .from)
 
   abbrev stays : List Waiting
-  stays = stay P M l poss from
+  stays = stay P M l possible from
 
   whole : ltb (length stays) (length from) ≡ false → keep (alive O H) (map h (K .from)) ≡ map h (K .from)
   whole e =
@@ -297,7 +297,7 @@ module _ (q : Query) (a : T (admits q)) (d : Doc) (o : T (isOpen d)) where
   closing-is =
       ap (closingAt P (quickState q d) (pred (length (shown fs)))) cut-shown
       ∙ ap₂ (λ m k. closingFrom P (dropLast (shown fs)) (map waitingShown (K .before)) from
-      (stay P m (pred k) (possAt P (shown fs) (pred k)) from))
+      (stay P m (pred k) (possibleAt P (shown fs) (pred k)) from))
       (exact-met P fs) (length-map fs (frameShown P))
       ∙ ap (λ F. closingFrom P F (map waitingShown (K .before)) from stays) (sym (map-dropLast (frameShown P) fs))
       ∙ ap (λ x. record { frames = shown H; waiting = x; went = wentIf (ltb (length stays) (length from)) P (shown H) x }) (sym ks-shown)

@@ -25,7 +25,7 @@ use Rattle.engine.specs.Engine as Engine
 use Rattle.engine.specs.Engine.{Ops, frameOf, grow}
 use Rattle.plan.specs.Plan.{Plan, named, meets, lift, turn}
 use Rattle.engine.specs.MaskOps.{maskOps}
-use Rattle.engine.specs.Quick.{Frame, sureAt, possAt, Rise, raised, riseIf, riseAt, rise, refreshed, refresh, fresh, framesAfter}
+use Rattle.engine.specs.Quick.{Frame, sureAt, possibleAt, Rise, raised, riseIf, riseAt, rise, refreshed, refresh, fresh, framesAfter}
 use Rattle.engine.specs.Quick.Of.{frameShown}
 use Rattle.engine.specs.Quick.Kept.{Fed, fNil, fCons, Turned, tNil, tCons}
 
@@ -150,13 +150,13 @@ module _ (P : Plan) (y : Node) (plain : meets P (named P (y .name)) 0 ≡ meet (
 
   -- the frames that have risen, and the new one
   abbrev newest : List F → ReadyOf ℕ → Frame
-  newest fs rp = fresh P (y .name) (getD (rp .steps ∷ map (λ f. f .poss) (shown fs)) (length (shown fs)) 0)
+  newest fs rp = fresh P (y .name) (getD (rp .steps ∷ map (λ f. f .possible) (shown fs)) (length (shown fs)) 0)
 
   abbrev whole : Rise → Frame → List Frame
   whole r new = r .kept ++ (r .risen ++ (new ∷ []))
 
   abbrev put : F → ℕ → ReadyOf ℕ → Frame
-  put f K s = frameShown P (frameOf O (f .node) K s (f .poss))
+  put f K s = frameShown P (frameOf O (f .node) K s (f .possible))
 
   put-step :
       (b : Bool) (f : F) (r : Rise) (s : ReadyOf ℕ) (K : ℕ) (new : Frame) → (b ≡ true → join (f .below) (r .carry) ≡ f .below) →
@@ -173,7 +173,7 @@ module _ (P : Plan) (y : Node) (plain : meets P (named P (y .name)) 0 ≡ meet (
       (s rp : ReadyOf ℕ) → refresh P (s .steps) (newest [] rp ∷ []) ≡ frameShown P (frameOf O y 0 s (O .turn (O .named y) rp)) ∷ []
   unfolding refresh refreshed fresh
   newest-shown s rp =
-      ap (λ m. record { name = y .name; pass = p; below = 0; met = m; sure = turn P m (s .steps); poss = turn P p (rp .steps) } ∷ []) (sym plain)
+      ap (λ m. record { name = y .name; pass = p; below = 0; met = m; sure = turn P m (s .steps); possible = turn P p (rp .steps) } ∷ []) (sym plain)
     where
       p : ℕ
       p = named P (y .name)
@@ -184,11 +184,11 @@ module _ (P : Plan) (y : Node) (plain : meets P (named P (y .name)) 0 ≡ meet (
   unfolding grow rise
   refresh-all s rp fNil = newest-shown s rp
   refresh-all s rp (fCons {K} {f} {fs} k t) =
-      ap (λ r. refresh P (s .steps) (whole r (newest fs (f .poss)))) (risen-even f fs)
-      ∙ put-step (stops f fs) f (risen fs) s (O .join (f .below) (Engine.rise O y fs)) (newest fs (f .poss))
+      ap (λ r. refresh P (s .steps) (whole r (newest fs (f .possible)))) (risen-even f fs)
+      ∙ put-step (stops f fs) f (risen fs) s (O .join (f .below) (Engine.rise O y fs)) (newest fs (f .possible))
       (eqb-true (news f fs) (f .below)) (rise-carry t)
       ∙ ap (_∷_ (put f (O .join (f .below) (Engine.rise O y fs)) s))
-      (refresh-all (O .turn (O .meets (f .node) (O .join (f .below) (Engine.rise O y fs))) s) (f .poss) t)
+      (refresh-all (O .turn (O .meets (f .node) (O .join (f .below) (Engine.rise O y fs))) s) (f .possible) t)
 
   -- from the highest change on
   abbrev fromTop : ℕ → Rise → Frame → List Frame
@@ -204,10 +204,10 @@ module _ (P : Plan) (y : Node) (plain : meets P (named P (y .name)) 0 ≡ meet (
 
   same-frame :
       (f : F) (rs : ReadyOf ℕ) (K : ℕ) (fs : List F) → f .below ≡ K → f .sure ≡ O .turn (O .meets (f .node) (f .below)) rs →
-      frameShown P f ∷ shown (grow O y (f .sure) (f .poss) fs) ≡ put f K rs ∷ shown (grow O y (O .turn (O .meets (f .node) K) rs) (f .poss) fs)
+      frameShown P f ∷ shown (grow O y (f .sure) (f .possible) fs) ≡ put f K rs ∷ shown (grow O y (O .turn (O .meets (f .node) K) rs) (f .possible) fs)
   same-frame f rs K fs e k =
-      ap (λ x. frameShown P (record { node = f .node; below = f .below; sure = x; poss = f .poss }) ∷ shown (grow O y x (f .poss) fs)) k
-      ∙ ap (λ x. put f x rs ∷ shown (grow O y (O .turn (O .meets (f .node) x) rs) (f .poss) fs)) e
+      ap (λ x. frameShown P (record { node = f .node; below = f .below; sure = x; possible = f .possible }) ∷ shown (grow O y x (f .possible) fs)) k
+      ∙ ap (λ x. put f x rs ∷ shown (grow O y (O .turn (O .meets (f .node) x) rs) (f .possible) fs)) e
 
   top-all :
       {K : ℕ} {rs : ReadyOf ℕ} {fs : List F} (rp : ReadyOf ℕ) → Fed O K fs → Turned O rs fs →
@@ -215,13 +215,13 @@ module _ (P : Plan) (y : Node) (plain : meets P (named P (y .name)) 0 ≡ meet (
   unfolding grow rise
   top-all {K} {rs} rp fNil tNil = newest-shown rs rp
   top-all {K} {rs} rp (fCons {f} {fs} k t) (tCons e u) =
-      ap (λ r. fromTop (rs .steps) r (newest fs (f .poss))) (risen-even f fs)
-      ∙ top-step (stops f fs) f (risen fs) (rs .steps) (newest fs (f .poss)) _
-      (λ z. ap (_∷_ (frameShown P f)) (top-all (f .poss) t u) ∙ same-frame f rs _ fs (sym (eqb-true (news f fs) (f .below) z) ∙ rise-carry t) e)
-      (sym (ap (λ r. refresh P (rs .steps) (whole r (newest fs (f .poss)))) (risen-even f fs)) ∙ refresh-all rs rp (fCons {K = K} {f = f} k t))
+      ap (λ r. fromTop (rs .steps) r (newest fs (f .possible))) (risen-even f fs)
+      ∙ top-step (stops f fs) f (risen fs) (rs .steps) (newest fs (f .possible)) _
+      (λ z. ap (_∷_ (frameShown P f)) (top-all (f .possible) t u) ∙ same-frame f rs _ fs (sym (eqb-true (news f fs) (f .below) z) ∙ rise-carry t) e)
+      (sym (ap (λ r. refresh P (rs .steps) (whole r (newest fs (f .possible)))) (risen-even f fs)) ∙ refresh-all rs rp (fCons {K = K} {f = f} k t))
 
   pub open-frames :
       {K : ℕ} {fs : List F} → Fed O K fs → Turned O (O .start) fs →
       framesAfter P (y .name) (shown fs) (risen fs) ≡ shown (grow O y (O .start) (O .start) fs)
-  unfolding framesAfter sureAt possAt
+  unfolding framesAfter sureAt possibleAt
   open-frames t u = top-all (O .start) t u

@@ -1,7 +1,7 @@
 -- What the quick engine reads off its frames is what the engine reads off its own.
 --
 --   Sound n w          the waiting node w is at a level up to n and has a need; if it waits for itself, it is not at the document's level
---   poss-steps         a level's turn in the open reading
+--   possible-steps         a level's turn in the open reading
 --   certain-shown      w is certain for the quick engine exactly if it is for the engine
 --   went-counted       who goes is counted, looked for or not, where not looking finds none
 --   exact-met          what the innermost element meets is its `met`
@@ -18,10 +18,10 @@ use Rattle.meaning.specs.Selection.{ReadyOf}
 use Rattle.sets.specs.Set.{overlaps}
 use Rattle.engine.specs.Need.{NeedOf, itself, one-of}
 use Rattle.engine.specs.Engine as Engine
-use Rattle.engine.specs.Engine.{sures, posses, stands, exact}
+use Rattle.engine.specs.Engine.{sures, possibles, stands, exact}
 use Rattle.plan.specs.Plan.{Plan, lastGiven}
 use Rattle.engine.specs.MaskOps.{value, maskOps}
-use Rattle.engine.specs.Quick.{Frame, Waiting, metAt, sureAt, possAt, certainIf, certain, counted, wentIf}
+use Rattle.engine.specs.Quick.{Frame, Waiting, metAt, sureAt, possibleAt, certainIf, certain, counted, wentIf}
 use Rattle.engine.specs.Quick.Of.{frameShown, needShown, waitingShown}
 use Rattle.engine.specs.Quick.Kept.{Turned, tNil, tCons}
 
@@ -59,9 +59,9 @@ module _ (P : Plan) where
   unfolding sures sureAt
   sure-steps = steps-at (λ f. f .sure) (λ f. f .sure) (λ f. refl) start start
 
-  pub poss-steps : (fs : List F) (l : ℕ) → l ≤ length fs → getD (posses (maskOps P) fs) l start .steps ≡ possAt P (shown fs) l
-  unfolding posses possAt
-  poss-steps = steps-at (λ f. f .poss) (λ f. f .poss) (λ f. refl) start start
+  pub possible-steps : (fs : List F) (l : ℕ) → l ≤ length fs → getD (possibles (maskOps P) fs) l start .steps ≡ possibleAt P (shown fs) l
+  unfolding possibles possibleAt
+  possible-steps = steps-at (λ f. f .possible) (λ f. f .possible) (λ f. refl) start start
 
   end-at :
       (d : ReadyOf ℕ) {r : ReadyOf ℕ} {fs : List F} → Turned (maskOps P) r fs → (l : ℕ) → l < length fs →

@@ -28,7 +28,7 @@ frameShown P f =
       below = f .below;
       met = meets P (named P (f .node .name)) (f .below);
       sure = f .sure .steps;
-      poss = f .poss .steps;
+      possible = f .possible .steps;
     }
 
 abbrev pub needShown : NeedOf ℕ → ℕ

@@ -22,7 +22,7 @@ use Rattle.sets.specs.Set.{meet, without, overlaps}
 use Rattle.engine.specs.Every.{Every, eNil, eCons, every-head, every-map, every-both, every-append, every-right, every-mapped}
 use Rattle.engine.specs.Need.{NeedOf, Need}
 use Rattle.engine.specs.Engine as Engine
-use Rattle.engine.specs.Engine.{Ops, keepIf, keep, front, past, grow, posses, stands, alive, settle, openModel}
+use Rattle.engine.specs.Engine.{Ops, keepIf, keep, front, past, grow, possibles, stands, alive, settle, openModel}
 use Rattle.engine.specs.Hom.{waitingIn, front-hom, past-hom, certain-hom, alive-hom, newcomer-hom}
 use Rattle.engine.specs.StateOf.{ops, framesAt, nodes, stateOf}
 use Rattle.engine.specs.StateOf.Standings.{inside}
@@ -30,13 +30,13 @@ use Rattle.engine.specs.StateOf.Theorem.{nodes-open}
 use Rattle.plan.specs.Plan.{Plan, plan, named, meets, turn, lastGiven}
 use Rattle.engine.specs.MaskOps.{value, maskOps, masks, maskState}
 use Rattle.engine.specs.MaskOps.Laws.{meets-plain, mask-hom, mask-open}
-use Rattle.engine.specs.Quick.{Frame, Waiting, metAt, sureAt, possAt, certainIf, certain, counted}
+use Rattle.engine.specs.Quick.{Frame, Waiting, metAt, sureAt, possibleAt, certainIf, certain, counted}
 use Rattle.engine.specs.Quick.{Rise, rise, refreshed, refresh, fresh, framesAfter}
 use Rattle.engine.specs.Quick.{Opening, wentIf, judged, openingFrom, opening, newcomer, queueAfter, outAfter}
 use Rattle.engine.specs.Quick.Of.{frameShown, waitingShown, quickState}
 use Rattle.engine.specs.Quick.Lists.{counted-hom, counted-same, snoc-queue, keep-append, keep-whole}
 use Rattle.engine.specs.Quick.Kept.{fed-masks, Turned, turned-masks}
-use Rattle.engine.specs.Quick.Lookup.{Sound, poss-steps, certain-shown, went-counted}
+use Rattle.engine.specs.Quick.Lookup.{Sound, possible-steps, certain-shown, went-counted}
 use Rattle.engine.specs.Quick.Snoc.{rise-length}
 use Rattle.engine.specs.Quick.Grow.{open-frames, rise-quiet}
 use Rattle.engine.specs.Quick.Waits.{queue-alive, queue-low, queue-sound, queue-first}
@@ -50,15 +50,15 @@ module _ {S B R N : Type 0} (O : Ops S B R N) (y : Node) where
   length-grow rs rp (f ∷ fs) = ap suc (length-grow _ _ fs)
 
   newPoss : R → R → List (Engine.Frame B R) → R
-  newPoss d rp fs = O .turn (O .named y) (getD (rp ∷ map (λ f. f .poss) fs) (length fs) d)
+  newPoss d rp fs = O .turn (O .named y) (getD (rp ∷ map (λ f. f .possible) fs) (length fs) d)
 
   -- the elements around the new one are read as before in the open reading
-  grow-poss :
+  grow-possible :
       (d rs rp : R) (fs : List (Engine.Frame B R)) →
-      map (λ f. f .poss) (grow O y rs rp fs) ≡ map (λ f. f .poss) fs ++ (newPoss d rp fs ∷ [])
+      map (λ f. f .possible) (grow O y rs rp fs) ≡ map (λ f. f .possible) fs ++ (newPoss d rp fs ∷ [])
   unfolding grow newPoss
-  grow-poss d rs rp [] = refl
-  grow-poss d rs rp (f ∷ fs) = ap (_∷_ (f .poss)) (grow-poss d _ (f .poss) fs)
+  grow-possible d rs rp [] = refl
+  grow-possible d rs rp (f ∷ fs) = ap (_∷_ (f .possible)) (grow-possible d _ (f .possible) fs)
 
 module _ (P : Plan) (y : Node) where
   grow-met :
@@ -66,7 +66,7 @@ module _ (P : Plan) (y : Node) where
       metAt (map (frameShown P) (grow (maskOps P) y rs rp fs)) (suc (length fs)) ≡ meets P (named P (y .name)) 0
   unfolding grow metAt
   grow-met rs rp [] = refl
-  grow-met rs rp (f ∷ fs) = grow-met _ (f .poss) fs
+  grow-met rs rp (f ∷ fs) = grow-met _ (f .possible) fs
 
 -- one more frame changes nothing at the levels before it
 
@@ -130,20 +130,20 @@ module _ (q : Query) (a : T (admits q)) (y : Node) (d : Doc) where
   -- who is alive
 
   alive-more : (w : Engine.Waiting (NeedOf ℕ)) → w .place .level ≤ length fs → alive O G w ≡ alive O fs w
-  unfolding alive stands posses
+  unfolding alive stands possibles
   alive-more w h =
       ap (λ r. value r (w .place .need))
-      (ap (λ xs. getD (O .start ∷ xs) (w .place .level) (O .start)) (grow-poss O y (O .start) (O .start) (O .start) fs)
-      ∙ List·getD-append (O .start ∷ map (λ f. f .poss) fs) _ (O .start) (w .place .level)
-      (let e : length (map (λ (f : Engine.Frame ℕ (ReadyOf ℕ)). f .poss) fs) ≡ length fs = length-map fs _ in omega arith))
+      (ap (λ xs. getD (O .start ∷ xs) (w .place .level) (O .start)) (grow-possible O y (O .start) (O .start) (O .start) fs)
+      ∙ List·getD-append (O .start ∷ map (λ f. f .possible) fs) _ (O .start) (w .place .level)
+      (let e : length (map (λ (f : Engine.Frame ℕ (ReadyOf ℕ)). f .possible) fs) ≡ length fs = length-map fs _ in omega arith))
 
-  alive-new : alive O G new ≡ lastGiven (named P (y .name)) (possAt P (shown fs) (length (shown fs)))
-  unfolding alive stands posses value Engine.newcomer newPoss
+  alive-new : alive O G new ≡ lastGiven (named P (y .name)) (possibleAt P (shown fs) (length (shown fs)))
+  unfolding alive stands possibles value Engine.newcomer newPoss
   alive-new =
-      ap (λ xs. getD xs (length fs) (O .start) .end) (grow-poss O y (O .start) (O .start) (O .start) fs)
-      ∙ ap (λ r. r .end) (getD-at (map (λ f. f .poss) fs) _ [] (O .start) (length fs) (length-map fs _))
+      ap (λ xs. getD xs (length fs) (O .start) .end) (grow-possible O y (O .start) (O .start) (O .start) fs)
+      ∙ ap (λ r. r .end) (getD-at (map (λ f. f .possible) fs) _ [] (O .start) (length fs) (length-map fs _))
       ∙ ap (lastGiven (named P (y .name)))
-      (poss-steps P fs (length fs) (le-refl (length fs)) ∙ ap (possAt P (shown fs)) (sym (length-map fs (frameShown P))))
+      (possible-steps P fs (length fs) (le-refl (length fs)) ∙ ap (possibleAt P (shown fs)) (sym (length-map fs (frameShown P))))
 
   -- who is certain
 
@@ -256,7 +256,7 @@ module _ (q : Query) (a : T (admits q)) (y : Node) (d : Doc) where
   parent = sureAt P (R .kept) (length (R .kept))
 
   abbrev newest : Frame
-  newest = fresh P (y .name) (possAt P (shown fs) (length (shown fs)))
+  newest = fresh P (y .name) (possibleAt P (shown fs) (length (shown fs)))
 
   one-frame : R .risen ≡ [] → shown G ≡ shown fs ++ (refreshed newest (turn P (newest .met) parent) ∷ [])
   unfolding framesAfter refresh

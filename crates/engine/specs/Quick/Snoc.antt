@@ -22,7 +22,7 @@ use Rattle.sets.specs.Set.{join, overlaps}
 use Rattle.plan.specs.Plan.{Plan, meets, lift}
 use Rattle.engine.specs.Engine.{keep}
 use Rattle.engine.specs.Quick.{Frame, Waiting, certain, countedIf, counted, Rise, raised, riseIf, riseAt, rise, refresh, fresh}
-use Rattle.engine.specs.Quick.{framesAfter, sureAt, possAt, wentIf, cutIf, cut, moved, stay}
+use Rattle.engine.specs.Quick.{framesAfter, sureAt, possibleAt, wentIf, cutIf, cut, moved, stay}
 use Rattle.engine.specs.Quick.Lists.{keep-le}
 
 -- a rise
@@ -99,7 +99,7 @@ module _ (P : Plan) where
   unfolding framesAfter
   framesAfter-length n a fs =
       let r : Rise = rise P a fs in
-      let new : Frame = fresh P n (possAt P fs (length fs)) in
+      let new : Frame = fresh P n (possibleAt P fs (length fs)) in
       let s : ℕ = sureAt P (r .kept) (length (r .kept)) in
       omega (
         arith,
@@ -159,8 +159,8 @@ unfolding wentIf
 went-le true P fs ws = counted-le (certain P fs) ws
 went-le false P fs ws = omega arith
 
-pub stay-le : (P : Plan) (M l poss : ℕ) (ws : List Waiting) → length (stay P M l poss ws) ≤ length ws
+pub stay-le : (P : Plan) (M l possible : ℕ) (ws : List Waiting) → length (stay P M l possible ws) ≤ length ws
 unfolding stay
-stay-le P M l poss ws =
-    subst (λ n. length (keep (λ w. overlaps (w .need) poss) (map (moved P M l) ws)) ≤ n) (length-map ws (moved P M l))
+stay-le P M l possible ws =
+    subst (λ n. length (keep (λ w. overlaps (w .need) possible) (map (moved P M l) ws)) ≤ n) (length-map ws (moved P M l))
     (keep-le _ (map (moved P M l) ws))

@@ -5,7 +5,7 @@
 --   frames-close       the frames after a close are all but the last
 --   length-frames      there is a frame for each open element
 --   readies q v d r    what the levels are read with in the reading v, r being that of level 0
---   sures-readies, posses-readies      the frames hold them
+--   sures-readies, possibles-readies      the frames hold them
 --
 -- Assumes nothing.
 use Prim.Native.Nat.{suc}
@@ -97,8 +97,8 @@ open-named : (q : Query) (x : Node) (d : Doc) → meetsIn q open-reading x d ≡
 unfolding granted
 open-named q x d = sets-ext (meets-granted q x (met q open-reading d))
 
-pub posses-readies : (q : Query) (d : Doc) (rs rp : Ready) → rp ∷ map (λ f. f .poss) (framesOf q d rs rp) ≡ readies q open-reading d rp
+pub possibles-readies : (q : Query) (d : Doc) (rs rp : Ready) → rp ∷ map (λ f. f .possible) (framesOf q d rs rp) ≡ readies q open-reading d rp
 unfolding framesOf readies
-posses-readies q (done f) rs rp = refl
-posses-readies q (within p x d) rs rp =
-    ap (_∷_ rp) (posses-readies q d _ _ ∙ ap (λ M. readies q open-reading d (turn q M rp)) (sym (open-named q x d)))
+possibles-readies q (done f) rs rp = refl
+possibles-readies q (within p x d) rs rp =
+    ap (_∷_ rp) (possibles-readies q d _ _ ∙ ap (λ M. readies q open-reading d (turn q M rp)) (sym (open-named q x d)))

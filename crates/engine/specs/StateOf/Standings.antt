@@ -17,9 +17,9 @@ use Rattle.meaning.specs.Selection.{sure-reading, open-reading, start, selectio
 use Rattle.meaning.specs.Selection.Laws.{sure-possible}
 use Rattle.meaning.specs.Standing.{Standing, standing, standingsOf, standings, listedFrom, aliveFrom, heldFrom, listed, held}
 use Rattle.engine.specs.Need.{Need}
-use Rattle.engine.specs.Engine.{Place, Waiting, keepIf, keep, frontIf, front, pastIf, past, sures, posses, stands, certain, alive}
+use Rattle.engine.specs.Engine.{Place, Waiting, keepIf, keep, frontIf, front, pastIf, past, sures, possibles, stands, certain, alive}
 use Rattle.engine.specs.StateOf.{ops, framesOf, places, number, numberOf, framesAt, nodes, stateOf}
-use Rattle.engine.specs.StateOf.Frames.{sures-readies, posses-readies}
+use Rattle.engine.specs.StateOf.Frames.{sures-readies, possibles-readies}
 use Rattle.engine.specs.StateOf.Places.{stands-marks}
 
 map-number : (s : Place Need → Bool) (i : ℕ) (xs : List (Place Need)) → map (λ (w : Waiting Need). s (w .place)) (number i xs) ≡ map s xs
@@ -35,10 +35,10 @@ certain-sure q d =
     ∙ stands-marks q sure-reading d start
 
 pub alive-open : (q : Query) (d : Doc) → map (alive (ops q) (framesAt q d)) (nodes q d) ≡ selections q open-reading d
-unfolding alive nodes posses framesAt selections
+unfolding alive nodes possibles framesAt selections
 alive-open q d =
-    map-number (stands (ops q) (posses (ops q) (framesOf q d start start))) 1 (places q d)
-    ∙ ap (λ rs. map (stands (ops q) rs) (places q d)) (posses-readies q d start start)
+    map-number (stands (ops q) (possibles (ops q) (framesOf q d start start))) 1 (places q d)
+    ∙ ap (λ rs. map (stands (ops q) rs) (places q d)) (possibles-readies q d start start)
     ∙ stands-marks q open-reading d start
 
 -- what goes out and what stays, as numbers

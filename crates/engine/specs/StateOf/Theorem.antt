@@ -53,7 +53,7 @@ module _
     (kept : (w : Waiting Need) → h w .number ≡ w .number)
     (all : nodes q d′ ≡ map h (nodes q d) ++ new)
     (sures-grow : Pre Imp (selections q sure-reading d) (selections q sure-reading d′))
-    (posses-shrink : Pre Pmi (selections q open-reading d) (selections q open-reading d′)) where
+    (possibles-shrink : Pre Pmi (selections q open-reading d) (selections q open-reading d′)) where
   abbrev F : List (Frame Steps Ready)
   F = framesAt q d
 
@@ -63,7 +63,7 @@ module _
   calm : Steady (certain (ops q) F) (alive (ops q) F) (certain (ops q) F′) (alive (ops q) F′) h (nodes q d)
   calm =
       steady (certain (ops q) F) (alive (ops q) F) (certain (ops q) F′) (alive (ops q) F′) h new (nodes q d)
-      (rw (← all, certain-sure q d, certain-sure q d′) sures-grow) (rw (← all, alive-open q d, alive-open q d′) posses-shrink)
+      (rw (← all, certain-sure q d, certain-sure q d′) sures-grow) (rw (← all, alive-open q d, alive-open q d′) possibles-shrink)
       (rw (← all) (both-pre (inside q d′)))
 
   event-queue : past (certain (ops q) F′) (keep (alive (ops q) F′) (map h (stateOf q d .queue) ++ new)) ≡ stateOf q d′ .queue

@@ -56,14 +56,15 @@ same-length-2 c = search needs
 
 returns-2 : tie.Need-returns-2
 returns-2 c =
-    let start = c .before .before .before .before .before .before .before .before .before .before .before .before .before .before .before .before .before .before .before in
-    let begin = c .before .before .before .before .before .before .before .before .before .before .before .before .before .before .begin in
-    let line = c .before .before .before .before .before .before .before .before .before .before .before .before .query-line .ensures in
+    let far = c .before .before .before .before .before .before .before .before .before .before .before .before in
+    let start = far .before .before .before .before .before .before .before in
+    let begin = far .before .before .begin in
+    let line = far .query-line .ensures in
     let query = start .args .query .now in
     let checked = begin-checked query _ _ (begin .result) (omega (arith, elements-is)) (omega (arith, nodes-is)) (begin .ensures) in
     let few = c .before .before .before .before .before .before .before .before .before .if1 .left in
     let so = silent-admitted query (begin .result .answer) checked _ _ _ (line .0) few in
-    let bytes = c .before .before .before .before .before .before .before .before .before .before .before .before .before .before .before .before .before .before .shared-slice-known .given in
+    let bytes = far .before .before .before .before .before .before .shared-slice-known .given in
     let of = begin-of query _ _ (begin .result) (λ i. bytes i .fits) (begin .ensures) so in
     let events = c .before .before .before .before .answer-events .ensures in
     (answered-by (λ l. admitted-lined query (begin .result .answer) checked _ _ _ (line .0) few _ _ (l query of)) (events .0), events .1)

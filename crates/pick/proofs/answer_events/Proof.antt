@@ -35,8 +35,10 @@ finish-requires c κs = search needs
 
 last-line-requires : tie.Need-last-line-requires
 last-line-requires c κs =
-    let few = c .before .before .before .before .before .before .before .before .before .before .before .before .before .work-all .ensures .few in
-    (omega (arith, c .before .before .before .before .before .before .before .before .before .before .before .before .before .before .before .before .before .before .before .before .before .before .before .before .pre .1 .0), omega (arith, few, node-limit-is))
+    let far = c .before .before .before .before .before .before .before .before .before .before .before .before in
+    let few = far .before .work-all .ensures .few in
+    let pre = far .before .before .before .before .before .before .before .before .before .before .before .before .pre in
+    (omega (arith, pre .1 .0), omega (arith, few, node-limit-is))
 
 same-length : tie.Need-same-length
 same-length c = search needs
@@ -49,9 +51,10 @@ same-length-3 c = search needs
 
 returns : tie.Need-returns
 returns c =
-    let opened = c .before .before .before .before .before .before .before .before .before .before .before .before .before .before .before .before .before .before .before .before .before .before .«open» .ensures in
+    let far = c .before .before .before .before .before .before .before .before .before .before .before .before in
+    let opened = far .before .before .before .before .before .before .before .before .before .before .«open» .ensures in
     let closed = c .before .before .before .before .before .before .before .close .ensures in
-    let work = c .before .before .before .before .before .before .before .before .before .before .before .before .before .before .before .before .work-all .ensures in
+    let work = far .before .before .before .before .work-all .ensures in
     let written = c .before .before .before .before .before .before .if1 .taken in
     let finished = c .before .before .before .before .finish in
     let line = c .before .before .last-line .ensures in
@@ -68,7 +71,9 @@ same-length-6 : tie.Need-same-length-6
 same-length-6 c = search needs
 
 returns-2 : tie.Need-returns-2
-returns-2 c = (inr (c .before .before .before .before .before .before .before .before .before .before .work-all .ensures .failed (c .if1 .left), refl), (omega arith, refl))
+returns-2 c =
+    let work = c .before .before .before .before .before .before .before .before .before .before .work-all .ensures in
+    (inr (work .failed (c .if1 .left), refl), (omega arith, refl))
 
 pub answer-events-spec : {M : Type 1} → statement M
 answer-events-spec =

@@ -27,7 +27,9 @@ same-length-5 : tie.Need-same-length-5
 same-length-5 c = search needs
 
 returns : tie.Need-returns
-returns c = worked (c .before .before .before .before .before .before .before .before .before .before .before .before .before .before .if1 .taken) refl (c .before .before .before .before .before .before .before .before .work-block .ensures)
+returns c =
+    let far = c .before .before .before .before .before .before .before .before .before .before .before .before in
+    worked (far .before .before .if1 .taken) refl (c .before .before .before .before .before .before .before .before .work-block .ensures)
 
 read-more-requires : tie.Need-read-more-requires
 read-more-requires c κs = search needs

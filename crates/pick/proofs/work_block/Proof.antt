@@ -24,24 +24,27 @@ write-text-requires c κs = search needs
 
 mul-t17 : tie.Need-mul-t17
 mul-t17 c =
-    let work = c .before .before .before .before .before .before .before .before .before .before .before .before .work in
-    let begin = c .before .before .before .before .before .before .before .before .before .before .before .before .before .before .before .before .before .before .before .before .before .before .before .before in
+    let far = c .before .before .before .before .before .before .before .before .before .before .before .before in
+    let work = far .work in
+    let begin = far .before .before .before .before .before .before .before .before .before .before .before .before in
     let short = part-short (begin .args .input .now) (begin .args .state .from) (begin .args .state .end) in
     let few : work .result .ran .taken ≤ 65536 = omega (arith, short, work .ensures .1 .1 .0, begin .pre .0 .0 .inside, begin .pre .1 .0) in
     omega (arith, few)
 
 add-t30 : tie.Need-add-t30
 add-t30 c =
-    let work = c .before .before .before .before .before .before .before .before .before .before .before .before .work in
-    let begin = c .before .before .before .before .before .before .before .before .before .before .before .before .before .before .before .before .before .before .before .before .before .before .before .before in
+    let far = c .before .before .before .before .before .before .before .before .before .before .before .before in
+    let work = far .work in
+    let begin = far .before .before .before .before .before .before .before .before .before .before .before .before in
     let short = part-short (begin .args .input .now) (begin .args .state .from) (begin .args .state .end) in
     let few : work .result .ran .taken ≤ 65536 = omega (arith, short, work .ensures .1 .1 .0, begin .pre .0 .0 .inside, begin .pre .1 .0) in
     omega (arith, few, begin .pre .0 .0 .forward, begin .pre .0 .0 .inside, begin .pre .1 .0)
 
 add-t32 : tie.Need-add-t32
 add-t32 c =
-    let work = c .before .before .before .before .before .before .before .before .before .before .before .before .before .work in
-    let begin = c .before .before .before .before .before .before .before .before .before .before .before .before .before .before .before .before .before .before .before .before .before .before .before .before .before in
+    let far = c .before .before .before .before .before .before .before .before .before .before .before .before in
+    let work = far .before .work in
+    let begin = far .before .before .before .before .before .before .before .before .before .before .before .before .before in
     let short = part-short (begin .args .input .now) (begin .args .state .from) (begin .args .state .end) in
     let few : work .result .ran .taken ≤ 65536 = omega (arith, short, work .ensures .1 .1 .0, begin .pre .0 .0 .inside, begin .pre .1 .0) in
     omega (arith, few, node-limit-is, begin .pre .1 .1)
@@ -60,8 +63,9 @@ same-length-4 c = search needs
 
 returns : tie.Need-returns
 returns c =
-    let begin = c .before .before .before .before .before .before .before .before .before .before .before .before .before .before .before .before .before .before .before .before .before .before .before .before .before in
-    let work = c .before .before .before .before .before .before .before .before .before .before .before .before .before .work in
+    let far = c .before .before .before .before .before .before .before .before .before .before .before .before in
+    let begin = far .before .before .before .before .before .before .before .before .before .before .before .before .before in
+    let work = far .before .work in
     worked-so (begin .args .state) (begin .args .input .now) (begin .args .elements .now) (begin .args .nodes .now) (begin .args .out .now) (work .result .ran)
     _ _ _ _ _ (work .result .length) _ (begin .pre .0 .0) (work .ensures .1 .1 .1) (work .ensures .1 .1 .0) (work .ensures .0)
     (work .ensures .1 .0 .0) (c .before .before .before .write-text .ensures)

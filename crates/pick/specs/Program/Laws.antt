@@ -37,7 +37,7 @@ use Rattle.session.specs.declared.Start.the-variants as started
 use Rattle.session.specs.declared.Begun.{Begun}
 use Rattle.session.specs.Begin.{said, answerOf, BeginGives}
 use Rattle.session.specs.Event.{finish}
-use Rattle.session.specs.Run.{Lent, lent}
+use Rattle.session.specs.Run.{Housed, housed}
 use Rattle.promise.specs.Promise.{Of, begin-answer, ended-is, opened-is, handed-is}
 use Rattle.lines.specs.Put.{Put}
 use Rattle.lines.specs.Put.Laws.{put-taken}
@@ -57,14 +57,14 @@ unfolding pick
 finish-by true k h n = refl
 finish-by false k h n = refl
 
-finish-owed : {b : List ℕ} {es : List Event} {l : Lent} → Of b es l → finishLine (finish (l .session)) (length es) ≡ finishLineOf (decode b) es
+finish-owed : {b : List ℕ} {es : List Event} {l : Housed} → Of b es l → finishLine (finish (l .session)) (length es) ≡ finishLineOf (decode b) es
 unfolding finish finishLineOf
 finish-owed {b} {es} {l} o =
     finish-by (l .session .ended) (l .session .opened) (l .session .handed) (length es)
     ∙ ap₂ (λ (x : Bool) (h : ℕ). pick x (endLine h) (refusedAtLine unfinished (length es))) (ended-is o) (handed-is o)
 
 pub last-line-owed :
-    {b : List ℕ} {es : List Event} {l : Lent} → Of b es l → (f : Finish) → f ≡ finish (l .session) → (taken r : ℕ) → taken ≡ length es →
+    {b : List ℕ} {es : List Event} {l : Housed} → Of b es l → (f : Finish) → f ≡ finish (l .session) → (taken r : ℕ) → taken ≡ length es →
     lastLine f taken r ≡ lastLineBy (refusalOf r) (decode b) es
 unfolding lastLineBy refusalOf
 last-line-owed {b} {es} o f e taken zero t =

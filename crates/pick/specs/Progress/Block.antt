@@ -39,7 +39,7 @@ use Rattle.session.specs.declared.Session.{Session}
 use Rattle.session.specs.declared.Answer.{Answer}
 use Rattle.session.specs.declared.Answer.the-variants.{Refused, Taken}
 use Rattle.session.specs.Event.{Done, toldOf, event}
-use Rattle.session.specs.Run.{Lent, lent, refusalOf, givenOf, cameTo, eventAt}
+use Rattle.session.specs.Run.{Housed, housed, refusalOf, givenOf, cameAs, eventAt}
 use Rattle.session.specs.Told.{told}
 use Rattle.promise.specs.Promise.{SameUsed, Of, leftBy, room-long, Given, event-owed}
 use Rattle.promise.specs.Theorem.Replies.{same, event-long}
@@ -47,10 +47,10 @@ use Rattle.promise.specs.Theorem.Blocks.{left-is, used-back, refused-some}
 use Rattle.pick.specs.Progress.{Progress}
 use Rattle.pick.specs.Progress.Laws.{progress-none, progress-then}
 
-abbrev pub Enough : Lent → Type 0
+abbrev pub Enough : Housed → Type 0
 Enough l = tooSmall (length (l .elements)) (length (l .nodes)) ≡ false
 
-pub record BlockProgress (b : List ℕ) (es : List Stream.Event) (bs : List ℕ) (n : ℕ) (out : List ℕ) (f : Fed Lent) : Type 0 where
+pub record BlockProgress (b : List ℕ) (es : List Stream.Event) (bs : List ℕ) (n : ℕ) (out : List ℕ) (f : Fed Housed) : Type 0 where
   pub offered : Progress b es bs (f .seat) (f .taken) (f .refusal) (nodesIn (f .listed) (f .out))
   pub enough : Enough (f .seat)
   -- only a whole record is refused; with room enough no block is left standing
@@ -67,7 +67,7 @@ nodes-both ns out more k h =
     ∙ nodesIn-append ns more k h
 
 none-progress :
-    {b : List ℕ} {es : List Stream.Event} {l : Lent} (bs out : List ℕ) (n : ℕ) → (0 < n → outputNeeded ≤ length out → ⊥) → Enough l → Of b es l →
+    {b : List ℕ} {es : List Stream.Event} {l : Housed} (bs out : List ℕ) (n : ℕ) → (0 < n → outputNeeded ≤ length out → ⊥) → Enough l → Of b es l →
     BlockProgress b es bs n out (none-fed l out)
 unfolding nodesIn
 none-progress bs out n idle e o =
@@ -77,7 +77,7 @@ none-progress bs out n idle e o =
 
 module _ {b : List ℕ} {es : List Stream.Event} (bs out : List ℕ) (n : ℕ) (long : 8 * suc n ≤ length bs) where
   refused-progress :
-      (r : ℕ) → first (refusals (decode b) (document es) (offer bs)) ≡ some r → 0 < r → (l : Lent) → Enough l → Of b es l →
+      (r : ℕ) → first (refusals (decode b) (document es) (offer bs)) ≡ some r → 0 < r → (l : Housed) → Enough l → Of b es l →
       BlockProgress b es bs (suc n) out (one (record { refusal = r; given = 0; seat = l; out = out }))
   unfolding nodesIn offering
   refused-progress r e positive l enough o =
@@ -99,7 +99,7 @@ module _ {b : List ℕ} {es : List Stream.Event} (bs out : List ℕ) (n : ℕ) (
         some = λ p w z. absurd (omega arith);
       }
 
-  module _ (e : first (refusals (decode b) (document es) (offer bs)) ≡ none) (l : Lent) (reached : Of b (after (decode b) es (offer bs)) l) (ns : List ℕ)
+  module _ (e : first (refusals (decode b) (document es) (offer bs)) ≡ none) (l : Housed) (reached : Of b (after (decode b) es (offer bs)) l) (ns : List ℕ)
       (listing : listed (decode b) (document es) ++ ns ≡ listed (decode b) (document (after (decode b) es (offer bs)))) (nodes : Nodes ns) where
     once : Progress b es bs l 1 0 ns
     once =
@@ -114,7 +114,7 @@ module _ {b : List ℕ} {es : List Stream.Event} (bs out : List ℕ) (n : ℕ) (
         }
 
     taken-progress :
-        (f : Fed Lent) → BlockProgress b (after (decode b) es (offer bs)) (drop 8 bs) n (drop (4 * length ns) (buffer ns out)) f →
+        (f : Fed Housed) → BlockProgress b (after (decode b) es (offer bs)) (drop 8 bs) n (drop (4 * length ns) (buffer ns out)) f →
         BlockProgress b es bs (suc n) out (andThen (one (record { refusal = 0; given = length ns; seat = l; out = buffer ns out })) f)
     unfolding andThen once
     taken-progress f t =
@@ -129,9 +129,9 @@ module _ {b : List ℕ} {es : List Stream.Event} (bs out : List ℕ) (n : ℕ) (
 
 -- one event, by the first refusal that applies, and what comes next
 
-module _ {b : List ℕ} {es : List Stream.Event} {l : Lent} (o : Of b es l) (enough : Enough l) (n : ℕ) (bs out : List ℕ) (long : 8 * suc n ≤ length bs)
+module _ {b : List ℕ} {es : List Stream.Event} {l : Housed} (o : Of b es l) (enough : Enough l) (n : ℕ) (bs out : List ℕ) (long : 8 * suc n ≤ length bs)
     (wide : outputNeeded ≤ length out)
-    (rest : (es′ : List Stream.Event) (l′ : Lent) (out′ : List ℕ) → Of b es′ l′ → Enough l′ →
+    (rest : (es′ : List Stream.Event) (l′ : Housed) (out′ : List ℕ) → Of b es′ l′ → Enough l′ →
     BlockProgress b es′ (drop 8 bs) n out′ (fed eventAt n l′ (drop 8 bs) out′)) where
   abbrev used : Enough l → SameUsed l (l .elements) (l .nodes)
   used x = used-back (l .session) (l .elements) (l .nodes)
@@ -148,7 +148,7 @@ module _ {b : List ℕ} {es : List Stream.Event} {l : Lent} (o : Of b es l) (eno
       room-enough (decode b) (document es) (take 8 bs) (record { out = length out; elements = length (l .elements); nodes = length (l .nodes) }) wide (h .0)
       (h .1)
 
-  abbrev followed : Came Lent → Fed Lent
+  abbrev followed : Came Housed → Fed Housed
   followed w = pick (eqb (w .refusal) 0) (andThen (one w) (fed eventAt n (w .seat) (drop 8 bs) (drop (4 * w .given) (w .out)))) (one w)
 
   module _ (a : Answer) (t : Session) (A B out′ : List ℕ)
@@ -162,9 +162,10 @@ module _ {b : List ℕ} {es : List Stream.Event} {l : Lent} (o : Of b es l) (eno
         subst (λ (y : Option ℕ). Given o (take 8 bs) (l .elements) (l .nodes) out used y done) same-first
         (subst (Given o (take 8 bs) (l .elements) (l .nodes) out used _) (sym is) (event-owed o (take 8 bs) (l .elements) (l .nodes) out used))
 
-    still-enough : Enough (lent t A B)
+    still-enough : Enough (housed t A B)
     still-enough =
-        let h = event-long (l .session) (take 8 bs) (l .elements) (l .nodes) out (record { answer = a; session = t }) A B out′ (ap (λ (d : Done). toldOf d) is) in
+        let h =
+        event-long (l .session) (take 8 bs) (l .elements) (l .nodes) out (record { answer = a; session = t }) A B out′ (ap (λ (d : Done). toldOf d) is) in
         ap₂ tooSmall (h .0) (h .1) ∙ enough
 
   refused-next :
@@ -172,7 +173,7 @@ module _ {b : List ℕ} {es : List Stream.Event} {l : Lent} (o : Of b es l) (eno
       _≡_ {A = Done} (record { answer = Refused m; session = t; elements = A; nodes = B; out = out′ })
       (event (l .session) (take 8 bs) (l .elements) (l .nodes) out) →
       (y : Option ℕ) → x ≡ y → meaning.refused m ≡ answerIf y (yield (decode b) (document es) c) →
-      BlockProgress b es bs (suc n) out (one (record { refusal = m; given = 0; seat = lent t A B; out = out′ }))
+      BlockProgress b es bs (suc n) out (one (record { refusal = m; given = 0; seat = housed t A B; out = out′ }))
   unfolding answerIf yield
   refused-next m t A B out′ is none e told-so = let z : _≡_ {A = ℕ} 0 1 = cc in absurd (omega arith)
   refused-next m t A B out′ is (some r) e told-so =
@@ -181,8 +182,8 @@ module _ {b : List ℕ} {es : List Stream.Event} {l : Lent} (o : Of b es l) (eno
       same (l .session) (take 8 bs) (l .elements) (l .nodes) out (record { answer = Refused m; session = t }) A B out′ (ap (λ (d : Done). toldOf d) is)
       .refused-same m refl in
       let positive : 0 < m = refused-some (l .session) (take 8 bs) (l .elements) (l .nodes) out m (sym (ap (λ (d : Done). d .answer) is)) in
-      let seat-is : lent t A B ≡ l = λ i. lent (back .0 i) (back .1 .0 i) (back .1 .1 .0 i) in
-      subst (λ (w : Came Lent). BlockProgress b es bs (suc n) out (one w))
+      let seat-is : housed t A B ≡ l = λ i. housed (back .0 i) (back .1 .0 i) (back .1 .1 .0 i) in
+      subst (λ (w : Came Housed). BlockProgress b es bs (suc n) out (one w))
       (sym (λ i. record { refusal = m; given = 0; seat = seat-is i; out = back .1 .1 .1 i }))
       (refused-progress bs out n long m (e ∙ ap some (sym k)) positive l enough o)
 
@@ -208,8 +209,8 @@ module _ {b : List ℕ} {es : List Stream.Event} {l : Lent} (o : Of b es l) (eno
       out′ ≡ buffer (handedBy (answerIf y (yield (decode b) (document es) c))) out →
       Of b (afterIf y es (callEvents c)) (leftBy l (l .elements) (l .nodes) t A B) →
       BlockProgress b es bs (suc n) out
-      (andThen (one (record { refusal = 0; given = k; seat = lent t A B; out = out′ }))
-      (fed eventAt n (lent t A B) (drop 8 bs) (drop (4 * k) out′)))
+      (andThen (one (record { refusal = 0; given = k; seat = housed t A B; out = out′ }))
+      (fed eventAt n (housed t A B) (drop 8 bs) (drop (4 * k) out′)))
   unfolding answerIf handedBy
   taken-next k t A B out′ is (some r) e told-so written next = let z : _≡_ {A = ℕ} 0 1 = cc in absurd (omega arith)
   taken-next k t A B out′ is none e told-so written next =
@@ -220,22 +221,22 @@ module _ {b : List ℕ} {es : List Stream.Event} {l : Lent} (o : Of b es l) (eno
       sym (length-nodes k out′) ∙ ap (λ (a : meaning.Answer). length (handedBy a)) told-so ∙ ap length is-news in
       let filled : out′ ≡ buffer news out = written ∙ ap (λ (ns : List ℕ). buffer ns out) is-news in
       let then-so : afterIf none es (callEvents c) ≡ after (decode b) es (offer bs) = after-none e ∙ after-so in
-      let reached : Of b (after (decode b) es (offer bs)) (lent t A B) =
-      subst (λ (fs : List Stream.Event). Of b fs (lent t A B)) then-so
+      let reached : Of b (after (decode b) es (offer bs)) (housed t A B) =
+      subst (λ (fs : List Stream.Event). Of b fs (housed t A B)) then-so
       (subst (Of b (afterIf none es (callEvents c))) (left-is l (l .elements) (l .nodes) t A B enough) next) in
       subst
-      (λ (w : Came Lent).
-      BlockProgress b es bs (suc n) out (andThen (one w) (fed eventAt n (lent t A B) (drop 8 bs) (drop (4 * w .given) (w .out)))))
-      (sym (λ i. record { refusal = 0; given = many i; seat = lent t A B; out = filled i }))
-      (taken-progress bs out n long e (lent t A B) reached news
+      (λ (w : Came Housed).
+      BlockProgress b es bs (suc n) out (andThen (one w) (fed eventAt n (housed t A B) (drop 8 bs) (drop (4 * w .given) (w .out)))))
+      (sym (λ i. record { refusal = 0; given = many i; seat = housed t A B; out = filled i }))
+      (taken-progress bs out n long e (housed t A B) reached news
       (call-listed (decode b) es c ∙ ap (λ (fs : List Stream.Event). listed (decode b) (document fs)) after-so) news-small _
-      (rest (after (decode b) es (offer bs)) (lent t A B) (drop (4 * length news) (buffer news out)) reached (still-enough (Taken k) t A B out′ is)))
+      (rest (after (decode b) es (offer bs)) (housed t A B) (drop (4 * length news) (buffer news out)) reached (still-enough (Taken k) t A B out′ is)))
 
   next-progress :
       (a : Answer) (t : Session) (A B out′ : List ℕ) →
       _≡_ {A = Done} (record { answer = a; session = t; elements = A; nodes = B; out = out′ })
       (event (l .session) (take 8 bs) (l .elements) (l .nodes) out) →
-      BlockProgress b es bs (suc n) out (followed (cameTo (record { answer = a; session = t; elements = A; nodes = B; out = out′ })))
+      BlockProgress b es bs (suc n) out (followed (cameAs (record { answer = a; session = t; elements = A; nodes = B; out = out′ })))
   unfolding refusalOf givenOf told
   next-progress (Refused m) t A B out′ is =
       let positive : 0 < m = refused-some (l .session) (take 8 bs) (l .elements) (l .nodes) out m (sym (ap (λ (d : Done). d .answer) is)) in
@@ -247,7 +248,7 @@ module _ {b : List ℕ} {es : List Stream.Event} {l : Lent} (o : Of b es l) (eno
       (taken-next k t A B out′ is x refl (w .answered) (w .written) (w .next))
 
 pub fed-progress :
-    {b : List ℕ} {es : List Stream.Event} {l : Lent} (n : ℕ) (bs out : List ℕ) → Of b es l → Enough l → 8 * n ≤ length bs →
+    {b : List ℕ} {es : List Stream.Event} {l : Housed} (n : ℕ) (bs out : List ℕ) → Of b es l → Enough l → 8 * n ≤ length bs →
     BlockProgress b es bs n out (fed eventAt n l bs out)
 unfolding fed eventAt
 fed-progress zero bs out o e h = none-progress bs out 0 (λ p w. omega arith) e o
@@ -261,23 +262,23 @@ fed-progress {b} {es} {l} (suc n) bs out o e h =
 
 -- TWO BLOCKS ONE AFTER THE OTHER ARE ONE STREAM
 
-abbrev pub blockFed : Lent → List ℕ → List ℕ → Fed Lent
+abbrev pub blockFed : Housed → List ℕ → List ℕ → Fed Housed
 blockFed l bs out = fed eventAt (length bs / 8) l bs out
 
 pub then-fed :
-    {b : List ℕ} {es : List Stream.Event} {bs : List ℕ} {l : Lent} {t : ℕ} {ns : List ℕ} → Progress b es bs l t 0 ns → Enough l → (rest out : List ℕ) →
+    {b : List ℕ} {es : List Stream.Event} {bs : List ℕ} {l : Housed} {t : ℕ} {ns : List ℕ} → Progress b es bs l t 0 ns → Enough l → (rest out : List ℕ) →
     rest ≡ drop (8 * t) bs →
     Progress b es bs (blockFed l rest out .seat) (t + blockFed l rest out .taken) (blockFed l rest out .refusal)
     (ns ++ nodesIn (blockFed l rest out .listed) (blockFed l rest out .out))
 then-fed {b} {l = l} o enough rest out e =
-    let f : Fed Lent = blockFed l rest out in
+    let f : Fed Housed = blockFed l rest out in
     progress-then o
     (subst (λ (x : List ℕ). Progress b (o .events) x (f .seat) (f .taken) (f .refusal) (nodesIn (f .listed) (f .out))) e
     (fed-progress (length rest / 8) rest out (o .reached) enough (omega arith) .offered))
 
 pub fed-fed :
-    {b : List ℕ} {es : List Stream.Event} {l : Lent} (bs out out′ : List ℕ) → Of b es l → Enough l → (f : Fed Lent) → f ≡ blockFed l bs out →
-    f .refusal ≡ 0 → (g : Fed Lent) → g ≡ blockFed (f .seat) (drop (8 * f .taken) bs) out′ →
+    {b : List ℕ} {es : List Stream.Event} {l : Housed} (bs out out′ : List ℕ) → Of b es l → Enough l → (f : Fed Housed) → f ≡ blockFed l bs out →
+    f .refusal ≡ 0 → (g : Fed Housed) → g ≡ blockFed (f .seat) (drop (8 * f .taken) bs) out′ →
     Progress b es bs (g .seat) (f .taken + g .taken) (g .refusal) (nodesIn (f .listed) (f .out) ++ nodesIn (g .listed) (g .out))
 fed-fed {b} {es} {l} bs out out′ o enough f ef z g eg =
     let whole : BlockProgress b es bs (length bs / 8) out f =
@@ -285,5 +286,5 @@ fed-fed {b} {es} {l} bs out out′ o enough f ef z g eg =
     let unrefused : Progress b es bs (f .seat) (f .taken) 0 (nodesIn (f .listed) (f .out)) =
     subst (λ (r : ℕ). Progress b es bs (f .seat) (f .taken) r (nodesIn (f .listed) (f .out))) z (whole .offered) in
     subst
-    (λ (x : Fed Lent). Progress b es bs (x .seat) (f .taken + x .taken) (x .refusal) (nodesIn (f .listed) (f .out) ++ nodesIn (x .listed) (x .out)))
+    (λ (x : Fed Housed). Progress b es bs (x .seat) (f .taken + x .taken) (x .refusal) (nodesIn (f .listed) (f .out) ++ nodesIn (x .listed) (x .out)))
     (sym eg) (then-fed unrefused (whole .enough) (drop (8 * f .taken) bs) out′ refl)

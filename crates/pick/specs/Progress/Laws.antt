@@ -24,11 +24,11 @@ use Rattle.meaning.specs.Standing.{listed}
 use Rattle.meaning.specs.Offering.{offering, offeringAll}
 use Rattle.meaning.specs.Offering.Laws.{offering-then, offering-stopped, offering-more, offering-short, length-offered, most-events}
 use Rattle.query.specs.Decode.{decode}
-use Rattle.session.specs.Run.{Lent}
+use Rattle.session.specs.Run.{Housed}
 use Rattle.promise.specs.Promise.{Of}
 use Rattle.pick.specs.Progress.{Progress}
 
-pub progress-none : {b : List ℕ} {es : List Event} {l : Lent} (bs : List ℕ) → Of b es l → Progress b es bs l 0 0 []
+pub progress-none : {b : List ℕ} {es : List Event} {l : Housed} (bs : List ℕ) → Of b es l → Progress b es bs l 0 0 []
 unfolding offering
 progress-none {b} {es} bs o =
     record {
@@ -41,9 +41,9 @@ progress-none {b} {es} bs o =
       listing = append-nil (listed (decode b) (document es));
     }
 
-module _ {b : List ℕ} {es : List Event} {bs : List ℕ} {l : Lent} {t : ℕ} {ns : List ℕ} (o : Progress b es bs l t 0 ns) where
+module _ {b : List ℕ} {es : List Event} {bs : List ℕ} {l : Housed} {t : ℕ} {ns : List ℕ} (o : Progress b es bs l t 0 ns) where
   pub progress-then :
-      {l′ : Lent} {t′ r : ℕ} {ns′ : List ℕ} → Progress b (o .events) (drop (8 * t) bs) l′ t′ r ns′ → Progress b es bs l′ (t + t′) r (ns ++ ns′)
+      {l′ : Housed} {t′ r : ℕ} {ns′ : List ℕ} → Progress b (o .events) (drop (8 * t) bs) l′ t′ r ns′ → Progress b es bs l′ (t + t′) r (ns ++ ns′)
   progress-then {l′} {t′} {r} {ns′} p =
       let at : 8 * t + 8 * t′ ≡ 8 * (t + t′) = omega arith in
       let rest : drop (8 * t′) (drop (8 * t) bs) ≡ drop (8 * (t + t′)) bs = drop-drop (8 * t′) (8 * t) bs ∙ ap (λ (k : ℕ). drop k bs) at in
@@ -87,7 +87,7 @@ module _ {b : List ℕ} {es : List Event} {bs : List ℕ} {l : Lent} {t : ℕ} {
 
 -- the whole of the bytes
 
-module _ {b bs : List ℕ} {l : Lent} {t r : ℕ} {ns : List ℕ} (o : Progress b [] bs l t r ns) where
+module _ {b bs : List ℕ} {l : Housed} {t r : ℕ} {ns : List ℕ} (o : Progress b [] bs l t r ns) where
   pub progress-all : r ≡ 0 → length bs ≤ 8 * t → offeringAll (decode b) bs ≡ record { events = o .events; refusal = none }
   progress-all z h =
       let n : (length bs + 7) / 8 ≡ t = omega (arith, o .within) in

@@ -17,7 +17,7 @@ use borrow.Author.Tests.{eq-eqb, ne-eqb}
 use Rattle.choice.specs.Pick.{pick-yes, pick-no, never}
 use Rattle.feed.specs.Fed.{Fed}
 use Rattle.session.specs.declared.Ran.{Ran}
-use Rattle.session.specs.Run.{Lent, ran}
+use Rattle.session.specs.Run.{Housed, ran}
 use Rattle.lines.specs.Put.{Put}
 use Rattle.lines.specs.Put.Laws.{put-taken}
 use Rattle.lines.specs.Text.{linesOf, nodesIn}
@@ -122,13 +122,13 @@ module _ (s : State) (input E N out : List ℕ) (r : Ran) (E′ N′ out′ text
   worked-so =
       let room : length text′ ≡ length text = ap length (put .text) ∙ length-sets text 0 (linesOf (nodesIn (r .listed) out′)) in
       record {
-        seat-so = ap (λ (g : Fed Lent). g .seat) block;
-        taken-so = ap (λ (g : Fed Lent). s .taken + g .taken) block;
-        refusal-so = ap (λ (g : Fed Lent). g .refusal) block;
-        left = past ∙ ap (λ (g : Fed Lent). drop (8 * g .taken) (unread s input)) block;
+        seat-so = ap (λ (g : Fed Housed). g .seat) block;
+        taken-so = ap (λ (g : Fed Housed). s .taken + g .taken) block;
+        refusal-so = ap (λ (g : Fed Housed). g .refusal) block;
+        left = past ∙ ap (λ (g : Fed Housed). drop (8 * g .taken) (unread s input)) block;
         within = record { forward = omega (arith, few, part-short input (s .from) (s .end), w .forward); inside = w .inside };
         not-ended = refl;
         handed =
             subst (λ (l : List ℕ). WriteTold l written)
-            (put-taken put (omega arith) ∙ ap (λ (g : Fed Lent). linesOf (nodesIn (g .listed) (g .out))) block) handed;
+            (put-taken put (omega arith) ∙ ap (λ (g : Fed Housed). linesOf (nodesIn (g .listed) (g .out))) block) handed;
       }

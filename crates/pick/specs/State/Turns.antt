@@ -31,7 +31,7 @@ use Rattle.meaning.specs.Standing.{standingsOf, standings, listedFrom, listed}
 use Rattle.meaning.specs.Offering.{Offering, offeringAll}
 use Rattle.query.specs.Decode.{decode}
 use Rattle.session.specs.declared.Session.{Session}
-use Rattle.session.specs.Run.{Lent, lent}
+use Rattle.session.specs.Run.{Housed, housed}
 use Rattle.promise.specs.Promise.{Of}
 use Rattle.lines.specs.Text.{linesOf, nodesIn}
 use Rattle.lines.specs.Text.Laws.{linesOf-append}
@@ -39,7 +39,8 @@ use Rattle.system.specs.declared.File.{File}
 use Rattle.system.specs.Marks.{ReadOver, WriteTold, received, nothing-yet, Delivered, delivered, none-yet}
 use Rattle.pick.specs.declared.State.{State}
 use Rattle.pick.specs.Progress.{Progress}
-use Rattle.pick.specs.Progress.Laws.{progress-none, progress-more, progress-short, progress-all, progress-stopped, progress-same, progress-count, progress-few}
+use Rattle.pick.specs.Progress.Laws.{progress-none, progress-more, progress-short, progress-all, progress-stopped, progress-same}
+use Rattle.pick.specs.Progress.Laws.{progress-count, progress-few}
 use Rattle.pick.specs.Progress.Block.{Enough, BlockProgress, fed-progress, then-fed}
 use Rattle.pick.specs.State.{unread, UnreadWithin, leftoverOf, refusalOf, moreToDo, ReadMore, blockOf, Worked, Turned, worked, read, TurnsSoFar, Streamed}
 
@@ -73,7 +74,7 @@ leftover-none : (left : ℕ) → leftoverOf left ≡ 0 → left ≡ 0
 unfolding leftoverOf
 leftover-none left = pick-known (λ (n : ℕ). n ≡ 0 → left ≡ 0) _ _ _ (λ z e. eqb-true left 0 z) (λ z e. absurd (omega arith))
 
-module _ {b bs : List ℕ} {l : Lent} {t left : ℕ} {ns : List ℕ} (o : Progress b [] bs l t 0 ns) (few : left < 8) (all : 8 * t + left ≡ length bs) where
+module _ {b bs : List ℕ} {l : Housed} {t left : ℕ} {ns : List ℕ} (o : Progress b [] bs l t 0 ns) (few : left < 8) (all : 8 * t + left ≡ length bs) where
   progress-leftover : Progress b [] bs l t (leftoverOf left) ns
   unfolding leftoverOf
   progress-leftover =
@@ -86,14 +87,14 @@ module _ {b bs : List ℕ} {l : Lent} {t left : ℕ} {ns : List ℕ} (o : Progre
   progress-at-end false = o
 
 progress-as :
-    {b : List ℕ} {es : List Event} {bs : List ℕ} {l l′ : Lent} {t t′ r r′ : ℕ} {ns : List ℕ} → l′ ≡ l → t′ ≡ t → r′ ≡ r → Progress b es bs l t r ns →
+    {b : List ℕ} {es : List Event} {bs : List ℕ} {l l′ : Housed} {t t′ r r′ : ℕ} {ns : List ℕ} → l′ ≡ l → t′ ≡ t → r′ ≡ r → Progress b es bs l t r ns →
     Progress b es bs l′ t′ r′ ns
 progress-as e f g o = rw (e, f, g) o
 
 -- before the first turn
 
 pub begun-so-far :
-    {b : List ℕ} (file : File) (session : Session) (input E N : List ℕ) → Enough (lent session E N) → Of b [] (lent session E N) →
+    {b : List ℕ} (file : File) (session : Session) (input E N : List ℕ) → Enough (housed session E N) → Of b [] (housed session E N) →
     TurnsSoFar b file (record { session = session; from = 0; end = 0; taken = 0; refusal = 0; ended = false; written = true }) input E N
 unfolding linesOf
 begun-so-far file session input E N enough o =
@@ -121,8 +122,8 @@ module _ {b : List ℕ} {file : File} (s : State) (input E N : List ℕ) (u : Tu
   g : Going (s .refusal) (s .ended) (s .written)
   g = going (s .refusal) (s .ended) (s .written) go
 
-  so-far : Progress b [] (u .bytes) (lent (s .session) E N) (s .taken) 0 (u .nodes)
-  so-far = subst (λ (r : ℕ). Progress b [] (u .bytes) (lent (s .session) E N) (s .taken) r (u .nodes)) (g .unrefused) (u .offered)
+  so-far : Progress b [] (u .bytes) (housed (s .session) E N) (s .taken) 0 (u .nodes)
+  so-far = subst (λ (r : ℕ). Progress b [] (u .bytes) (housed (s .session) E N) (s .taken) r (u .nodes)) (g .unrefused) (u .offered)
 
   all-read : 8 * s .taken + (s .end - s .from) ≡ length (u .bytes)
   all-read = omega (arith, ap length (u .rest), unread-length s input w, length-drop (8 * s .taken) (u .bytes), so-far .within)
@@ -138,7 +139,7 @@ module _ {b : List ℕ} {file : File} (s : State) (input E N : List ℕ) (u : Tu
 
     read-progress :
         (e : Bool) → s′ .ended ≡ e →
-        Progress b [] (u .bytes ++ m .bytes) (lent (s .session) E N) (s .taken) (pick e (leftoverOf (s .end - s .from)) 0) (u .nodes)
+        Progress b [] (u .bytes ++ m .bytes) (housed (s .session) E N) (s .taken) (pick e (leftoverOf (s .end - s .from)) 0) (u .nodes)
     read-progress true e = progress-at-end (progress-more so-far (m .bytes)) few (omega (arith, read-all, ended-none e)) true
     read-progress false e = unfold pick in progress-more so-far (m .bytes)
 
@@ -287,7 +288,7 @@ module _ {b : List ℕ} {file : File} {s : State} {input E N : List ℕ} (u : Tu
       record {
         bytes = u .bytes;
         received = u .received;
-        reached = subst (λ (fs : List Event). Of b fs (lent (s .session) E N)) (sym es) (u .offered .reached);
+        reached = subst (λ (fs : List Event). Of b fs (housed (s .session) E N)) (sym es) (u .offered .reached);
         counted = sym (ap length es ∙ progress-count (u .offered));
         refusal-so = sym (ap (λ (x : Offering). x .refusal) e ∙ r);
         to-end = end;

@@ -35,8 +35,8 @@ use Rattle.session.specs.declared.Step.{Step}
 use Rattle.session.specs.declared.Answer.{Answer}
 use Rattle.session.specs.declared.Answer.the-variants.{Refused, Taken}
 use Rattle.session.specs.declared.Ran.{Ran}
-use Rattle.session.specs.Event.{Done, numbersOf, settled, within, beside, toldOf, event, EventGives}
-use Rattle.session.specs.Run.{Lent, lent, refusalOf, givenOf, cameTo, eventAt, ran, RunGives}
+use Rattle.session.specs.Event.{Done, sessionNumbers, settled, within, beside, toldOf, event, EventGives}
+use Rattle.session.specs.Run.{Housed, housed, refusalOf, givenOf, cameAs, eventAt, ran, RunGives}
 use Rattle.session.specs.Told.{told}
 use Rattle.promise.specs.Promise.{SameUsed, Of, leftBy, event-of, event-answered, event-written}
 use Rattle.promise.specs.Theorem as theorem
@@ -44,10 +44,10 @@ use Rattle.promise.specs.Theorem.{Use, offer, Reply, stepped, Played, un
 use Rattle.promise.specs.Theorem.{Offered, no-more, one-more, Answered, all-taken, then-refused, one-taken}
 use Rattle.promise.specs.Theorem.Replies.{told-records, reached-kept, event-taken, event-long, same}
 
-record Singly (l : Lent) (n : ℕ) (es E N out : List ℕ) (f : Fed Lent) : Type 0 where
+record Singly (l : Housed) (n : ℕ) (es E N out : List ℕ) (f : Fed Housed) : Type 0 where
   offers : List Use
   replies : List Reply
-  left : Lent
+  left : Housed
   same-session : left .session ≡ f .seat .session
   played : Played l offers replies left
   goes-on : tooSmall (length E) (length N) ≡ false → SameUsed left (f .seat .elements) (f .seat .nodes)
@@ -59,8 +59,8 @@ record Singly (l : Lent) (n : ℕ) (es E N out : List ℕ) (f : Fed Lent) : Type
 
 -- no event is looked at
 none-singly :
-    (l : Lent) (n : ℕ) (es E N out : List ℕ) → (tooSmall (length E) (length N) ≡ false → SameUsed l E N) →
-    (0 ≡ n) ⊎ (length out < 0 + outputNeeded) → Singly l n es E N out (none (lent (l .session) E N) out)
+    (l : Housed) (n : ℕ) (es E N out : List ℕ) → (tooSmall (length E) (length N) ≡ false → SameUsed l E N) →
+    (0 ≡ n) ⊎ (length out < 0 + outputNeeded) → Singly l n es E N out (none (housed (l .session) E N) out)
 unfolding handedOut recordsOf
 none-singly l n es E N out used why =
     record {
@@ -78,13 +78,13 @@ none-singly l n es E N out used why =
     }
 
 -- room that was just given back has the records in use
-pub used-back : (s : Session) (A B : List ℕ) → SameUsed (lent s A B) A B
+pub used-back : (s : Session) (A B : List ℕ) → SameUsed (housed s A B) A B
 used-back s A B = record { elements = refl; nodes = refl }
 
 -- room that was enough is what is left
-pub left-is : (l : Lent) (E N : List ℕ) (t : Session) (A B : List ℕ) → tooSmall (length E) (length N) ≡ false → leftBy l E N t A B ≡ lent t A B
+pub left-is : (l : Housed) (E N : List ℕ) (t : Session) (A B : List ℕ) → tooSmall (length E) (length N) ≡ false → leftBy l E N t A B ≡ housed t A B
 unfolding leftBy
-left-is l E N t A B enough = pick-false (tooSmall (length E) (length N)) _ (lent t A B) enough
+left-is l E N t A B enough = pick-false (tooSmall (length E) (length N)) _ (housed t A B) enough
 
 -- a refusal has a number
 Numbered : Done → Type 0
@@ -99,7 +99,7 @@ refused-some s bytes E N out =
     (λ f x e. let z : x ≡ came .refusal = cc in subst (λ k. 0 < k) (sym z) (positive (came .refusal) (eqb-false (came .refusal) 0 f)))))
   where
     came : Came Seat
-    came = stepAt (keptIn (s .kept)) (seat (numbersOf s) (take elementsNeeded E) (take nodesNeeded N)) bytes out
+    came = stepAt (keptIn (s .kept)) (seat (sessionNumbers s) (take elementsNeeded E) (take nodesNeeded N)) bytes out
 
 -- an event that is taken was lent enough
 taken-enough :
@@ -116,11 +116,11 @@ taken-enough s bytes E N out k wide e = by (tooSmall (length E) (length N)) refl
         (pick-false (ltb (length out) outputNeeded) _ _ (le-ltb (length out) outputNeeded wide) ∙ pick-true (tooSmall (length E) (length N)) _ _ t) in
         let z : _≡_ {A = ℕ} 0 1 = cc in absurd (omega arith)
 
-module _ {b : List ℕ} {fs : List Event} {l : Lent} (o : Of b fs l) (n : ℕ) (es E N out : List ℕ)
+module _ {b : List ℕ} {fs : List Event} {l : Housed} (o : Of b fs l) (n : ℕ) (es E N out : List ℕ)
     (used : tooSmall (length E) (length N) ≡ false → SameUsed l E N) (whole : 8 ≤ length es) (wide : outputNeeded ≤ length out)
     (t : Session) (A B out′ : List ℕ) where
-  abbrev came : Answer → Came Lent
-  came a = record { refusal = refusalOf a; given = givenOf a; seat = lent t A B; out = out′ }
+  abbrev came : Answer → Came Housed
+  came a = record { refusal = refusalOf a; given = givenOf a; seat = housed t A B; out = out′ }
 
   refused-singly :
       (x : ℕ) → 0 < x → EventGives (l .session) (take 8 es) E N out (record { answer = Refused x; session = t }) A B out′ →
@@ -133,10 +133,10 @@ module _ {b : List ℕ} {fs : List Event} {l : Lent} (o : Of b fs l) (n : ℕ) (
         offers = offer (take 8 es) E N out ∷ [];
         replies = stepped r A B out′ ∷ [];
         left = leftBy l E N t A B;
-        same-session = pick-either (λ (k : Lent). k .session ≡ t) (tooSmall (length E) (length N)) _ _ refl refl;
+        same-session = pick-either (λ (k : Housed). k .session ≡ t) (tooSmall (length E) (length N)) _ _ refl refl;
         played = by-event {r = r} used g unused;
         goes-on =
-            λ f. subst (λ (k : Lent). SameUsed k A B) (sym (left-is l E N t A B f)) (used-back t A B);
+            λ f. subst (λ (k : Housed). SameUsed k A B) (sym (left-is l E N t A B f)) (used-back t A B);
         offered = one-more {r = r} whole wide no-more;
         answered = subst (λ k. Answered k x (meaning.refused x ∷ [])) (sym (none-taken x some)) (then-refused some);
         listed = refl;
@@ -148,7 +148,7 @@ module _ {b : List ℕ} {fs : List Event} {l : Lent} (o : Of b fs l) (n : ℕ) (
       none-taken x h = ap boolByte (ne-eqb x 0 (λ z. omega arith))
 
   module _ (k : ℕ) (g : EventGives (l .session) (take 8 es) E N out (record { answer = Taken k; session = t }) A B out′)
-      (enough : tooSmall (length E) (length N) ≡ false) (f : Fed Lent) (rest : Singly (lent t A B) n (drop 8 es) A B (drop (4 * k) out′) f) where
+      (enough : tooSmall (length E) (length N) ≡ false) (f : Fed Housed) (rest : Singly (housed t A B) n (drop 8 es) A B (drop (4 * k) out′) f) where
     abbrev r : Step
     r = record { answer = Taken k; session = t }
 
@@ -192,7 +192,9 @@ module _ {b : List ℕ} {fs : List Event} {l : Lent} (o : Of b fs l) (n : ℕ) (
           replies = stepped r A B out′ ∷ rest .replies;
           left = rest .left;
           same-session = rest .same-session;
-          played = by-event {r = r} used g (subst (λ (m : Lent). Played m (rest .offers) (rest .replies) (rest .left)) (sym (left-is l E N t A B enough)) (rest .played));
+          played =
+              by-event {r = r} used g
+              (subst (λ (m : Housed). Played m (rest .offers) (rest .replies) (rest .left)) (sym (left-is l E N t A B enough)) (rest .played));
           goes-on = λ e. rest .goes-on still-enough;
           offered =
               one-more {r = r} whole wide
@@ -215,17 +217,17 @@ module _ {b : List ℕ} {fs : List Event} {l : Lent} (o : Of b fs l) (n : ℕ) (
 
 -- one event, and then the rest
 module _ (n : ℕ) {b : List ℕ}
-    (rest : (fs : List Event) (l : Lent) → Of b fs l → (es E N out : List ℕ) → (tooSmall (length E) (length N) ≡ false → SameUsed l E N) →
-    8 * n ≤ length es → Singly l n es E N out (fed eventAt n (lent (l .session) E N) es out))
-    {fs : List Event} {l : Lent} (o : Of b fs l) (es E N out : List ℕ) (used : tooSmall (length E) (length N) ≡ false → SameUsed l E N)
+    (rest : (fs : List Event) (l : Housed) → Of b fs l → (es E N out : List ℕ) → (tooSmall (length E) (length N) ≡ false → SameUsed l E N) →
+    8 * n ≤ length es → Singly l n es E N out (fed eventAt n (housed (l .session) E N) es out))
+    {fs : List Event} {l : Housed} (o : Of b fs l) (es E N out : List ℕ) (used : tooSmall (length E) (length N) ≡ false → SameUsed l E N)
     (whole : 8 * suc n ≤ length es) (wide : outputNeeded ≤ length out) where
-  abbrev followed : Came Lent → Fed Lent
+  abbrev followed : Came Housed → Fed Housed
   followed c = pick (eqb (c .refusal) 0) (andThen (one c) (fed eventAt n (c .seat) (drop 8 es) (drop (4 * c .given) (c .out)))) (one c)
 
   one-singly :
       (a : Answer) (t : Session) (A B out′ : List ℕ) →
       _≡_ {A = Done} (record { answer = a; session = t; elements = A; nodes = B; out = out′ }) (event (l .session) (take 8 es) E N out) →
-      Singly l (suc n) es E N out (followed (cameTo (record { answer = a; session = t; elements = A; nodes = B; out = out′ })))
+      Singly l (suc n) es E N out (followed (cameAs (record { answer = a; session = t; elements = A; nodes = B; out = out′ })))
   unfolding refusalOf givenOf
   one-singly (Refused x) t A B out′ e =
       let some : 0 < x = refused-some (l .session) (take 8 es) E N out x (sym (ap (λ (d : Done). d .answer) e)) in
@@ -237,15 +239,15 @@ module _ (n : ℕ) {b : List ℕ}
       let enough : tooSmall (length E) (length N) ≡ false =
       taken-enough (l .session) (take 8 es) E N out k wide (sym (ap (λ (d : Done). d .answer) e)) in
       subst (Singly l (suc n) es E N out) (sym (pick-true true _ _ refl))
-      (taken-singly o n es E N out used (omega arith) wide t A B out′ k g enough (fed eventAt n (lent t A B) (drop 8 es) (drop (4 * k) out′))
-      (rest _ (lent t A B)
+      (taken-singly o n es E N out used (omega arith) wide t A B out′ k g enough (fed eventAt n (housed t A B) (drop 8 es) (drop (4 * k) out′))
+      (rest _ (housed t A B)
       (subst (Of b _) (left-is l E N t A B enough)
       (event-of o (take 8 es) E N out used (record { answer = Taken k; session = t }) A B out′ g))
       (drop 8 es) A B (drop (4 * k) out′) (λ x. used-back t A B) (omega (arith, length-drop 8 es))))
 
 fed-singly :
-    (n : ℕ) {b : List ℕ} {fs : List Event} {l : Lent} → Of b fs l → (es E N out : List ℕ) → (tooSmall (length E) (length N) ≡ false → SameUsed l E N) →
-    8 * n ≤ length es → Singly l n es E N out (fed eventAt n (lent (l .session) E N) es out)
+    (n : ℕ) {b : List ℕ} {fs : List Event} {l : Housed} → Of b fs l → (es E N out : List ℕ) → (tooSmall (length E) (length N) ≡ false → SameUsed l E N) →
+    8 * n ≤ length es → Singly l n es E N out (fed eventAt n (housed (l .session) E N) es out)
 unfolding fed eventAt
 fed-singly zero {l = l} o es E N out used h = none-singly l zero es E N out used (inl refl)
 fed-singly (suc n) {b} {fs} {l} o es E N out used h =
@@ -256,14 +258,14 @@ fed-singly (suc n) {b} {fs} {l} o es E N out used h =
     (ltb-false (length out) outputNeeded t) (event (l .session) (take 8 es) E N out .answer) _ _ _ _ refl)
 
 pub played-append :
-    {l k m : Lent} {us us′ : List Use} {rs rs′ : List Reply} → Played l us rs k → Played k us′ rs′ m → Played l (us ++ us′) (rs ++ rs′) m
+    {l k m : Housed} {us us′ : List Use} {rs rs′ : List Reply} → Played l us rs k → Played k us′ rs′ m → Played l (us ++ us′) (rs ++ rs′) m
 played-append unused q = q
 played-append (by-event u g p) q = by-event u g (played-append p q)
 played-append (by-finish g p) q = by-finish g (played-append p q)
 
 played-split :
-    (us us′ : List Use) {rs : List Reply} {l m : Lent} → Played l (us ++ us′) rs m →
-    (rs₁ : List Reply) × (rs₂ : List Reply) × (k : Lent) × Played l us rs₁ k × Played k us′ rs₂ m × (rs ≡ rs₁ ++ rs₂)
+    (us us′ : List Use) {rs : List Reply} {l m : Housed} → Played l (us ++ us′) rs m →
+    (rs₁ : List Reply) × (rs₂ : List Reply) × (k : Housed) × Played l us rs₁ k × Played k us′ rs₂ m × (rs ≡ rs₁ ++ rs₂)
 played-split [] us′ {rs} {l} p = ([], rs, l, unused, p, refl)
 played-split (u ∷ us) us′ (by-event {E′ = E′} {N′ = N′} {out′ = out′} {r = r} h g p) =
     let x = played-split us us′ p in
@@ -273,17 +275,18 @@ played-split (u ∷ us) us′ (by-finish {f = f} g p) =
 
 -- with other uses, replies and what they lead to
 reached-by :
-    {b : List ℕ} {us us′ : List Use} {rs rs′ : List Reply} {l k : Lent} (x : Reached b us rs l) → Played (lent (x .begun .session) (x .E) (x .N)) us′ rs′ k →
+    {b : List ℕ} {us us′ : List Use} {rs rs′ : List Reply} {l k : Housed} (x : Reached b us rs l) →
+    Played (housed (x .begun .session) (x .E) (x .N)) us′ rs′ k →
     Reached b us′ rs′ k
 reached-by x p = record { bytes = x .bytes; E = x .E; N = x .N; begun = x .begun; begins = x .begins; admitted = x .admitted; played = p }
 
 pub first-part :
-    {b : List ℕ} (us us′ : List Use) {rs : List Reply} {l : Lent} → Reached b (us ++ us′) rs l →
-    (rs₁ : List Reply) × (rs₂ : List Reply) × (k : Lent) × Reached b us rs₁ k × Played k us′ rs₂ l × (rs ≡ rs₁ ++ rs₂)
+    {b : List ℕ} (us us′ : List Use) {rs : List Reply} {l : Housed} → Reached b (us ++ us′) rs l →
+    (rs₁ : List Reply) × (rs₂ : List Reply) × (k : Housed) × Reached b us rs₁ k × Played k us′ rs₂ l × (rs ≡ rs₁ ++ rs₂)
 first-part us us′ x = let p = played-split us us′ (x .played) in (p .0, p .1, p .2, reached-by x (p .3), p .4, p .5)
 
 pub block :
-    {b : List ℕ} {us : List Use} {rs : List Reply} {l : Lent} → Reached b us rs l → (es E N out : List ℕ) →
+    {b : List ℕ} {us : List Use} {rs : List Reply} {l : Housed} → Reached b us rs l → (es E N out : List ℕ) →
     (tooSmall (length E) (length N) ≡ false → SameUsed l E N) → (r : Ran) (A B out′ : List ℕ) → RunGives (l .session) es E N out r A B out′ →
     theorem.Block b us rs es E N out r A B out′
 block {b} {us} {rs} {l} x es E N out used r A B out′ g =

@@ -57,9 +57,9 @@ use Rattle.session.specs.declared.Answer.the-variants.{Refused, Taken}
 use Rattle.session.specs.Begin.{fresh, said, answerOf as startAnswer, sessionFor, begun, BeginGives}
 use Rattle.session.specs.Begin.Laws.{begin-one}
 use Rattle.session.specs.Event as events
-use Rattle.session.specs.Event.{Done, refused, numbersOf, settled, within, beside, event, EventGives}
+use Rattle.session.specs.Event.{Done, refused, sessionNumbers, settled, within, beside, event, EventGives}
 use Rattle.session.specs.Event.Laws.{event-is, event-one, finish-one}
-use Rattle.session.specs.Run.{Lent, lent}
+use Rattle.session.specs.Run.{Housed, housed}
 use Rattle.session.specs.Told.{told, ended}
 use Rattle.promise.specs.Promise.{SameUsed, Of, leftBy, room-long, begin-answer, begin-session, begin-of, ruled}
 use Rattle.promise.specs.Promise.{event-answered, event-of, event-written, finish-given, waiting-held, opened-is, handed-is, held-is}
@@ -91,12 +91,12 @@ unfolding ended handedBy
 finish-none (finish-cases.Refused n) m e = ap handedBy (sym e)
 finish-none (finish-cases.Ended k h) m e = ap handedBy (sym e)
 
-pub record Kept (b : List ℕ) (es : List Event) (us : List Use) (rs : List Reply) (l : Lent) : Type 0 where
+pub record Kept (b : List ℕ) (es : List Event) (us : List Use) (rs : List Reply) (l : Housed) : Type 0 where
   pub of : Of b (accepted (decode b) es (map callOf us)) l
   pub answered : map answerOf rs ≡ answers (decode b) es (map callOf us)
   pub recorded : flatMap recordsIn rs ≡ recordsOf (handedOut (answers (decode b) es (map callOf us)))
 
-pub play-kept : {b : List ℕ} {es : List Event} {l k : Lent} {us : List Use} {rs : List Reply} → Of b es l → Played l us rs k → Kept b es us rs k
+pub play-kept : {b : List ℕ} {es : List Event} {l k : Housed} {us : List Use} {rs : List Reply} → Of b es l → Played l us rs k → Kept b es us rs k
 unfolding callOf answerOf recordsIn accepted answers handedOut flatMap
 play-kept o unused = record { of = o; answered = refl; recorded = unfold recordsOf in refl }
 play-kept {b} {es} o (by-event {bytes} {E} {N} {out} {E′} {N′} {out′} {r} same g p) =
@@ -120,12 +120,12 @@ play-kept {b} {es} {l} o (by-finish {f} {us} g p) =
       recorded = k .recorded ∙ ap (λ (ns : List ℕ). recordsOf (ns ++ rest)) (sym (finish-none f (answer (decode b) es Call.finish) e));
     }
 
-pub reached-kept : {b : List ℕ} {us : List Use} {rs : List Reply} {l : Lent} → Reached b us rs l → Kept b [] us rs l
+pub reached-kept : {b : List ℕ} {us : List Use} {rs : List Reply} {l : Housed} → Reached b us rs l → Kept b [] us rs l
 reached-kept {b} x = play-kept (begin-of b (x .E) (x .N) (x .begun) (x .bytes) (x .begins) (x .admitted) (x .E) (x .N)) (x .played)
 
 -- an event on a session after es
 pub event-taken :
-    {b : List ℕ} {es : List Event} {l : Lent} → Of b es l → (bytes E N out E′ N′ out′ : List ℕ) (r : Step) (k : ℕ) →
+    {b : List ℕ} {es : List Event} {l : Housed} → Of b es l → (bytes E N out E′ N′ out′ : List ℕ) (r : Step) (k : ℕ) →
     (tooSmall (length E) (length N) ≡ false → SameUsed l E N) → EventGives (l .session) bytes E N out r E′ N′ out′ → r .answer ≡ Taken k →
     drop (4 * k) out′ ≡ drop (4 * k) out
 unfolding told buffer
@@ -138,7 +138,7 @@ event-taken {b} {es} o bytes E N out E′ N′ out′ r k same g h =
     ∙ drop-at (recordsOf ns) _ (4 * k) (length-records ns ∙ ap (λ (n : ℕ). 4 * n) many)
     ∙ ap (λ (n : ℕ). drop (4 * n) out) many
 
-module _ {b : List ℕ} {us : List Use} {rs : List Reply} {l : Lent} (x : Reached b us rs l) where
+module _ {b : List ℕ} {us : List Use} {rs : List Reply} {l : Housed} (x : Reached b us rs l) where
   abbrev q : Query
   q = decode b
 
@@ -190,7 +190,7 @@ module _ (s : Session) (bytes E N out : List ℕ) where
   Past d = (drop elementsNeeded (d .elements) ≡ drop elementsNeeded E) × (drop nodesNeeded (d .nodes) ≡ drop nodesNeeded N)
 
   abbrev at : Seat
-  at = seat (numbersOf s) (take elementsNeeded E) (take nodesNeeded N)
+  at = seat (sessionNumbers s) (take elementsNeeded E) (take nodesNeeded N)
 
   abbrev came : Came Seat
   came = stepAt (keptIn (s .kept)) at bytes out
@@ -326,22 +326,22 @@ finish-some s = (events.finish s, refl)
 
 -- one list of replies
 
-played-one : {l k k′ : Lent} {us : List Use} {rs rs′ : List Reply} → Played l us rs k → Played l us rs′ k′ → (rs ≡ rs′) × (k ≡ k′)
+played-one : {l k k′ : Housed} {us : List Use} {rs rs′ : List Reply} → Played l us rs k → Played l us rs′ k′ → (rs ≡ rs′) × (k ≡ k′)
 played-one unused unused = (refl, refl)
 played-one {l} {k} {k′} (by-event {bytes} {E} {N} {out} {E′} {N′} {out′} {r} {us} same g p)
     (by-event {E′ = E″} {N′ = N″} {out′ = out″} {r = r′} {rs = rs′} same′ g′ p′) =
     let e = event-one (l .session) bytes E N out r r′ E′ E″ N′ N″ out′ out″ g g′ in
     let left : leftBy l E N (r .session) E′ N′ ≡ leftBy l E N (r′ .session) E″ N″ =
     λ i. leftBy l E N (e .0 i .session) (e .1 .0 i) (e .1 .1 .0 i) in
-    let rest = played-one {k′ = k′} p (subst (λ (m : Lent). Played m us rs′ k′) (sym left) p′) in
+    let rest = played-one {k′ = k′} p (subst (λ (m : Housed). Played m us rs′ k′) (sym left) p′) in
     (ap₂ _∷_ (λ i. stepped (e .0 i) (e .1 .0 i) (e .1 .1 .0 i) (e .1 .1 .1 i)) (rest .0), rest .1)
 played-one {l} (by-finish {f} g p) (by-finish {f = f′} g′ p′) =
     let rest = played-one p p′ in (ap₂ _∷_ (ap finish (finish-one (l .session) f f′ g g′)) (rest .0), rest .1)
 
 pub uses-one :
-    (b E N : List ℕ) (r r′ : given.Begun) {us : List Use} {rs rs′ : List Reply} {l l′ : Lent} → BeginGives b E N r → BeginGives b E N r′ →
-    Played (lent (r .session) E N) us rs l → Played (lent (r′ .session) E N) us rs′ l′ → (r ≡ r′) × (rs ≡ rs′) × (l ≡ l′)
+    (b E N : List ℕ) (r r′ : given.Begun) {us : List Use} {rs rs′ : List Reply} {l l′ : Housed} → BeginGives b E N r → BeginGives b E N r′ →
+    Played (housed (r .session) E N) us rs l → Played (housed (r′ .session) E N) us rs′ l′ → (r ≡ r′) × (rs ≡ rs′) × (l ≡ l′)
 uses-one b E N r r′ {us} {rs} {rs′} {l} {l′} g g′ p p′ =
     let e = begin-one b E N r r′ g g′ in
-    let k = played-one {k′ = l′} p (subst (λ (x : given.Begun). Played (lent (x .session) E N) us rs′ l′) (sym e) p′) in
+    let k = played-one {k′ = l′} p (subst (λ (x : given.Begun). Played (housed (x .session) E N) us rs′ l′) (sym e) p′) in
     (e, k .0, k .1)

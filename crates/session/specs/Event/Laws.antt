@@ -35,7 +35,7 @@ use Rattle.session.specs.declared.Answer.{Answer}
 use Rattle.session.specs.declared.Answer.the-variants.{Refused, Taken}
 use Rattle.session.specs.declared.Step.{Step}
 use Rattle.session.specs.declared.Finish as finished
-use Rattle.session.specs.Event.{Done, refused, refuseLent, numbersOf, withNumbers, settled, within, beside, event}
+use Rattle.session.specs.Event.{Done, refused, refuseLent, sessionNumbers, withNumbers, settled, within, beside, event}
 use Rattle.session.specs.Event.{ToldDone, toldAs, toldOf, EventGives, finish, FinishGives}
 use Rattle.session.specs.Told.{told, told-one, ended-one}
 
@@ -49,10 +49,10 @@ with-parts s n depth held opened handed ended e₁ e₂ e₃ e₄ e₅ =
 -- on the room that is needed; E′ and N′ are what it holds on return
 module _ (s : Session) (bytes E N out E′ N′ out′ : List ℕ) (refusal given : ℕ) (n n′ : Numbers) (longE : length E ≡ elementsNeeded)
     (longN : length N ≡ nodesNeeded) (longE′ : length E′ ≡ elementsNeeded) (longN′ : length N′ ≡ nodesNeeded) (bE : Bytes E) (bN : Bytes N) (bE′ : Bytes E′)
-    (bN′ : Bytes N′) (laid-as : n ≡ numbersOf s)
+    (bN′ : Bytes N′) (laid-as : n ≡ sessionNumbers s)
     (stepped : after refusal given n′ (elementsIn E′) (queueIn N′) out′
     ≡ step (keptIn (s .kept)) (shown (eventOf bytes)) n (elementsIn E) (queueIn N) out) where
-  came-is : came refusal given (seat n′ E′ N′) out′ ≡ stepAt (keptIn (s .kept)) (seat (numbersOf s) E N) bytes out
+  came-is : came refusal given (seat n′ E′ N′) out′ ≡ stepAt (keptIn (s .kept)) (seat (sessionNumbers s) E N) bytes out
   came-is =
       step-came (keptIn (s .kept)) n E N bytes out longE longN bE bN refusal given n′ E′ N′ out′ longE′ longN′ bE′ bN′ stepped
       ∙ ap (λ m. stepAt (keptIn (s .kept)) (seat m E N) bytes out) laid-as
@@ -62,7 +62,7 @@ module _ (s : Session) (bytes E N out E′ N′ out′ : List ℕ) (refusal give
       _≡_ {A = Done} (record { answer = Refused refusal; session = s; elements = E′; nodes = N′; out = out′ }) (within s bytes E N out)
   unfolding within settled
   within-refused f =
-      let at : Seat = seat (numbersOf s) E N in
+      let at : Seat = seat (sessionNumbers s) E N in
       let r : refusal ≡ stepAt (keptIn (s .kept)) at bytes out .refusal = ap (λ (c : Came Seat). c .refusal) came-is in
       let k = came-is ∙ refused-at (keptIn (s .kept)) at bytes out (λ z. f (r ∙ z)) in
       same (ap (λ (c : Came Seat). c .seat .elements) k) (ap (λ (c : Came Seat). c .seat .nodes) k) (ap (λ (c : Came Seat). c .out) k)
@@ -112,7 +112,8 @@ module _ (s : Session) (bytes E N out : List ℕ) where
   event-lent r e f = ap (λ (d : Done). toldOf d) (lent-cases _ _ _ r s E N out _ e f)
 
   event-within :
-      (d : Done) (E′ N′ : List ℕ) → outputNeeded ≤ length out → tooSmall (length E) (length N) ≡ false → d ≡ within s bytes (take elementsNeeded E) (take nodesNeeded N) out →
+      (d : Done) (E′ N′ : List ℕ) → outputNeeded ≤ length out → tooSmall (length E) (length N) ≡ false →
+      d ≡ within s bytes (take elementsNeeded E) (take nodesNeeded N) out →
       E′ ≡ d .elements ++ drop elementsNeeded E → N′ ≡ d .nodes ++ drop nodesNeeded N →
       toldAs (d .answer) (d .session) E′ N′ (d .out) ≡ toldOf (event s bytes E N out)
   unfolding event

@@ -19,7 +19,7 @@ use lib.ListN.{length, take, drop, take-append-drop, length-append}
 use lib.Seq.{length-take-le, take-at, drop-at}
 use borrow.Author.Tests.{eqb-true, eqb-false, ne-eqb, lt-ltb, le-ltb}
 use Rattle.choice.specs.Pick.{pick, pick-true, pick-false, pick-yes, pick-no, pick-known}
-use Rattle.choice.specs.Count.{boolByte-le}
+use Rattle.choice.specs.Count.{boolByte-le, boolByte-read}
 use Rattle.meaning.specs.Refusals.{shortRoom}
 use Rattle.meaning.specs.Answer.{tooSmall}
 use Rattle.meaning.specs.Answer.Laws.{not-small}
@@ -33,33 +33,29 @@ use Rattle.feed.specs.Steps.{Seat, seat, came, stepAt, Whole}
 use Rattle.feed.specs.Steps.Laws.{refused-at, whole-step}
 use Rattle.session.specs.declared.Session.{Session}
 use Rattle.session.specs.declared.Ran.{Ran}
-use Rattle.session.specs.Event.{Done, refuseLent, numbersOf, withNumbers, settled, within, beside, event}
+use Rattle.session.specs.Event.{Done, refuseLent, sessionNumbers, withNumbers, settled, within, beside, event}
 use Rattle.session.specs.Event.Laws.{lent-small}
-use Rattle.session.specs.Run.{Lent, lent, refusalOf, givenOf, cameTo, eventAt, ran, runWithin, RunGives}
+use Rattle.session.specs.Run.{Housed, housed, refusalOf, givenOf, cameAs, eventAt, ran, runWithin, RunGives}
 
 -- the numbers there and back
 
-bit-back : (b : Bool) → not (eqb (boolByte b) 0) ≡ b
-bit-back true = refl
-bit-back false = refl
-
-again : (s : Session) → withNumbers s (numbersOf s) ≡ s
+again : (s : Session) → withNumbers s (sessionNumbers s) ≡ s
 again s =
-    ap (λ (b : Bool). record { kept = s .kept; depth = s .depth; held = s .held; opened = s .opened; handed = s .handed; ended = b }) (bit-back (s .ended))
+    ap (λ (b : Bool). record { kept = s .kept; depth = s .depth; held = s .held; opened = s .opened; handed = s .handed; ended = b }) (boolByte-read (s .ended))
 
 said-bit : (n : ℕ) → n ≤ 1 → boolByte (not (eqb n 0)) ≡ n
 said-bit zero h = refl
 said-bit (suc zero) h = refl
 said-bit (suc (suc n)) h = absurd (omega arith)
 
-there : (s : Session) (n : Numbers) → n .ended ≤ 1 → numbersOf (withNumbers s n) ≡ n
+there : (s : Session) (n : Numbers) → n .ended ≤ 1 → sessionNumbers (withNumbers s n) ≡ n
 there s n h =
     ap (λ (k : ℕ). record { depth = n .depth; held = n .held; opened = n .opened; handed = n .handed; ended = k }) (said-bit (n .ended) h)
 
 -- an event on what is seen is a step
 
-abbrev seen : Session → List ℕ → List ℕ → Seat → Lent
-seen s A B t = lent (withNumbers s (t .numbers)) (t .elements ++ A) (t .nodes ++ B)
+abbrev seen : Session → List ℕ → List ℕ → Seat → Housed
+seen s A B t = housed (withNumbers s (t .numbers)) (t .elements ++ A) (t .nodes ++ B)
 
 module _ (s : Session) (A B : List ℕ) (t : Seat) (bytes out : List ℕ) (w : Whole t) where
   abbrev P : Plan
@@ -95,17 +91,17 @@ module _ (s : Session) (A B : List ℕ) (t : Seat) (bytes out : List ℕ) (w : W
 
   settled-is :
       (c : Came Seat) → ((c .refusal ≡ 0 → ⊥) → c ≡ came (c .refusal) 0 t out) →
-      cameTo (with-rest (settled now (t .elements) (t .nodes) out c)) ≡ across (seen s A B) c
+      cameAs (with-rest (settled now (t .elements) (t .nodes) out c)) ≡ across (seen s A B) c
   unfolding settled refusalOf givenOf
   settled-is c kept =
-      pick-known (λ (d : Done). cameTo (with-rest d) ≡ across (seen s A B) c) (eqb (c .refusal) 0) _ _
+      pick-known (λ (d : Done). cameAs (with-rest d) ≡ across (seen s A B) c) (eqb (c .refusal) 0) _ _
       (λ e. ap (λ (r : ℕ). record { refusal = r; given = c .given; seat = seen s A B (c .seat); out = c .out }) (sym (eqb-true _ _ e)))
       (λ e. sym (ap (λ (y : Came Seat). across (seen s A B) y) (kept (eqb-false _ _ e))))
 
   event-seen : outputNeeded ≤ length out → eventAt (seen s A B t) bytes out ≡ across (seen s A B) (stepAt P t bytes out)
   unfolding eventAt event
   event-seen h =
-      ap (λ (y : Done). cameTo y)
+      ap (λ (y : Done). cameAs y)
       (pick-false _ _ _ (le-ltb _ _ h)
       ∙ pick-false _ _ _ enough
       ∙ ap₂ (λ X Y. beside (t .elements ++ A) (t .nodes ++ B) (within now bytes X Y out)) fit-E fit-N
@@ -152,12 +148,12 @@ module _ (s : Session) (es E N out : List ℕ) where
 
   pub run-few : (r : Ran) → r ≡ stayed s 0 → length es < 8 → Gives r
   unfolding fed
-  run-few r e h = still 0 r e (ap (λ (n : ℕ). fed eventAt n (lent s E N) es out) (sym few))
+  run-few r e h = still 0 r e (ap (λ (n : ℕ). fed eventAt n (housed s E N) es out) (sym few))
     where
       few : length es / 8 ≡ 0
       few = omega arith
 
-  short : (n : ℕ) → length out < outputNeeded → ran (stayed s 0) E N out ≡ fed eventAt n (lent s E N) es out
+  short : (n : ℕ) → length out < outputNeeded → ran (stayed s 0) E N out ≡ fed eventAt n (housed s E N) es out
   unfolding fed
   short zero h = refl
   short (suc n) h = pick-yes _ _ _ _ (lt-ltb _ _ h) refl
@@ -168,17 +164,18 @@ module _ (s : Session) (es E N out : List ℕ) where
   -- "15 comes directly after 1 and before all others"
   small-event :
       (bytes : List ℕ) → outputNeeded ≤ length out → tooSmall (length E) (length N) ≡ true →
-      eventAt (lent s E N) bytes out ≡ record { refusal = 15; given = 0; seat = lent s E N; out = out }
+      eventAt (housed s E N) bytes out ≡ record { refusal = 15; given = 0; seat = housed s E N; out = out }
   unfolding eventAt event refusalOf givenOf
-  small-event bytes h k = ap (λ (d : Done). cameTo d) (pick-false _ _ _ (le-ltb _ _ h) ∙ pick-true _ _ _ k)
+  small-event bytes h k = ap (λ (d : Done). cameAs d) (pick-false _ _ _ (le-ltb _ _ h) ∙ pick-true _ _ _ k)
 
   small :
-      (n : ℕ) → 0 < n → outputNeeded ≤ length out → tooSmall (length E) (length N) ≡ true → ran (stayed s shortRoom) E N out ≡ fed eventAt n (lent s E N) es out
+      (n : ℕ) → 0 < n → outputNeeded ≤ length out → tooSmall (length E) (length N) ≡ true →
+      ran (stayed s shortRoom) E N out ≡ fed eventAt n (housed s E N) es out
   unfolding fed
   small zero l h k = absurd (omega arith)
   small (suc n) l h k =
       pick-no _ _ _ _ (le-ltb _ _ h)
-      (sym (ap (λ (c : Came Lent). pick (eqb (c .refusal) 0)
+      (sym (ap (λ (c : Came Housed). pick (eqb (c .refusal) 0)
       (andThen (one c) (fed eventAt n (c .seat) (drop 8 es) (drop (4 * c .given) (c .out)))) (one c)) (small-event (take 8 es) h k)
       ∙ pick-false _ _ _ (ne-eqb 15 0 (λ z. omega arith))))
 
@@ -191,14 +188,14 @@ module _ (s : Session) (es E N out : List ℕ) where
 
 -- any other block: k and l are how long the parts of the room are that were lent on
 
-whole-at : (s : Session) (E N : List ℕ) → length E ≡ elementsNeeded → length N ≡ nodesNeeded → Whole (seat (numbersOf s) E N)
+whole-at : (s : Session) (E N : List ℕ) → length E ≡ elementsNeeded → length N ≡ nodesNeeded → Whole (seat (sessionNumbers s) E N)
 whole-at s E N e f = record { elements = e; nodes = f; said = boolByte-le (s .ended) }
 
 module _ (s : Session) (es E N out : List ℕ) (k l : ℕ) (ek : elementsNeeded ≡ k) (el : nodesNeeded ≡ l) (longE : k ≤ length E) (longN : l ≤ length N) where
-  start-is : lent s E N ≡ seen s (drop k E) (drop l N) (seat (numbersOf s) (take k E) (take l N))
-  start-is = λ i. lent (sym (again s) i) (sym (take-append-drop k E) i) (sym (take-append-drop l N) i)
+  start-is : housed s E N ≡ seen s (drop k E) (drop l N) (seat (sessionNumbers s) (take k E) (take l N))
+  start-is = λ i. housed (sym (again s) i) (sym (take-append-drop k E) i) (sym (take-append-drop l N) i)
 
-  wide : Whole (seat (numbersOf s) (take k E) (take l N))
+  wide : Whole (seat (sessionNumbers s) (take k E) (take l N))
   wide = whole-at s (take k E) (take l N) (length-take-le k E longE ∙ sym ek) (length-take-le l N longN ∙ sym el)
 
   pub run-parts :
@@ -206,25 +203,25 @@ module _ (s : Session) (es E N out : List ℕ) (k l : ℕ) (ek : elementsNeeded 
       RunGives s es E N out r (A ++ drop k E) (B ++ drop l N) out′
   unfolding runWithin
   run-parts r A B out′ e =
-      ap (λ (f : Fed Lent). record {
-        seat = lent (f .seat .session) (f .seat .elements ++ drop k E) (f .seat .nodes ++ drop l N);
+      ap (λ (f : Fed Housed). record {
+        seat = housed (f .seat .session) (f .seat .elements ++ drop k E) (f .seat .nodes ++ drop l N);
         taken = f .taken;
         listed = f .listed;
         refusal = f .refusal;
         out = f .out;
       }) e
-      ∙ sym (ap (λ (x : Lent). fed eventAt (length es / 8) x es out) start-is ∙ block-seen s (drop k E) (drop l N) (length es / 8) _ es out wide)
+      ∙ sym (ap (λ (x : Housed). fed eventAt (length es / 8) x es out) start-is ∙ block-seen s (drop k E) (drop l N) (length es / 8) _ es out wide)
 
 -- by what feed gives
 pub run-within :
-    (s t : Session) (es E N out : List ℕ) (n n′ : Numbers) (taken listed refusal : ℕ) (E′ N′ out′ : List ℕ) → n ≡ numbersOf s → t ≡ withNumbers s n′ →
+    (s t : Session) (es E N out : List ℕ) (n n′ : Numbers) (taken listed refusal : ℕ) (E′ N′ out′ : List ℕ) → n ≡ sessionNumbers s → t ≡ withNumbers s n′ →
     _≡_ {A = Fed Seat} (record { seat = seat n′ E′ N′; taken = taken; listed = listed; refusal = refusal; out = out′ })
     (fed (stepAt (keptIn (s .kept))) (length es / 8) (seat n E N) es out) →
     ran (record { session = t; taken = taken; listed = listed; refusal = refusal }) E′ N′ out′ ≡ runWithin s es E N out
 unfolding runWithin
 run-within s t es E N out n n′ taken listed refusal E′ N′ out′ laid-as et e =
-    ap (λ (u : Session). record { seat = lent u E′ N′; taken = taken; listed = listed; refusal = refusal; out = out′ }) et
-    ∙ ap (λ (f : Fed Seat). allAcross (λ (x : Seat). lent (withNumbers s (x .numbers)) (x .elements) (x .nodes)) f)
+    ap (λ (u : Session). record { seat = housed u E′ N′; taken = taken; listed = listed; refusal = refusal; out = out′ }) et
+    ∙ ap (λ (f : Fed Seat). allAcross (λ (x : Seat). housed (withNumbers s (x .numbers)) (x .elements) (x .nodes)) f)
     (e ∙ ap (λ (m : Numbers). fed (stepAt (keptIn (s .kept))) (length es / 8) (seat m E N) es out) laid-as)
 
 pub run-one :
@@ -232,10 +229,10 @@ pub run-one :
     (r ≡ r′) × ((A ≡ A′) × ((B ≡ B′) × (o ≡ o′)))
 run-one s es E N out r r′ A A′ B B′ o o′ g g′ =
     let e = g ∙ sym g′ in
-    let e-session = ap (λ (f : Fed Lent). f .seat .session) e in
-    let e-taken = ap (λ (f : Fed Lent). f .taken) e in
-    let e-listed = ap (λ (f : Fed Lent). f .listed) e in
-    let e-refusal = ap (λ (f : Fed Lent). f .refusal) e in (
+    let e-session = ap (λ (f : Fed Housed). f .seat .session) e in
+    let e-taken = ap (λ (f : Fed Housed). f .taken) e in
+    let e-listed = ap (λ (f : Fed Housed). f .listed) e in
+    let e-refusal = ap (λ (f : Fed Housed). f .refusal) e in (
       λ i. record { session = e-session i; taken = e-taken i; listed = e-listed i; refusal = e-refusal i },
-      (ap (λ (f : Fed Lent). f .seat .elements) e, (ap (λ (f : Fed Lent). f .seat .nodes) e, ap (λ (f : Fed Lent). f .out) e)),
+      (ap (λ (f : Fed Housed). f .seat .elements) e, (ap (λ (f : Fed Housed). f .seat .nodes) e, ap (λ (f : Fed Housed). f .out) e)),
     )

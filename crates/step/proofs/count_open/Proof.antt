@@ -21,7 +21,8 @@ add-write c = let at-get = c .before .before .before .before .before in
     omega (arith, depth-is, at-get .get .ensures, start .pre .1 .deep)
 
 add-write-2 : tie.Need-add-write-2
-add-write-2 c = omega (arith, node-limit-is, c .before .before .before .get2 .ensures, c .before .before .before .before .before .before .before .before .pre .1 .few)
+add-write-2 c =
+    omega (arith, node-limit-is, c .before .before .before .get2 .ensures, c .before .before .before .before .before .before .before .before .pre .1 .few)
 
 wrapping-add-u32-requires : tie.Need-wrapping-add-u32-requires
 wrapping-add-u32-requires c κs = search needs

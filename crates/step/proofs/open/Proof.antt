@@ -195,7 +195,8 @@ returns-3 c = let at-join = c .before .before .before .before .before .before .b
           (at-full .full .ensures) (at-if2 .if2 .left) (at-opening .opening .ensures .0) (ap (λ k. k + 1) (at-get3 .get3 .ensures)) refl
           (at-join .join .ensures .0) (c .before .before .count-open .ensures),
       let fits = at-refuse-open .refuse-open .ensures .1 (at-if1 .if1 .left) in
-          omega (arith, output-is, held-is, at-opening .opening .ensures .1, at-get2 .get2 .ensures, fits .held, boolByte-le (at-opening .opening .result .all)),
+          omega
+          (arith, output-is, held-is, at-opening .opening .ensures .1, at-get2 .get2 .ensures, fits .held, boolByte-le (at-opening .opening .result .all)),
     )
 
 pub open-spec : {M : Type 1} → statement M

@@ -28,7 +28,7 @@ use Rattle.records.specs.declared.Event.{Event}
 use Rattle.records.specs.Read.{shown}
 use Rattle.sets.specs.Set.{meet, without}
 use Rattle.plan.specs.Plan.{Plan, named, lastGiven}
-use Rattle.engine.specs.Quick.{Frame, Rise, rise, framesAfter, sureAt, possAt, Opening, opening, openingFrom, judged, over, wentIf, cut}
+use Rattle.engine.specs.Quick.{Frame, Rise, rise, framesAfter, sureAt, possibleAt, Opening, opening, openingFrom, judged, over, wentIf, cut}
 use Rattle.engine.specs.Quick.Snoc.{framesAfter-length}
 use Rattle.element.specs.Element.{Elements, elementsIn, frameAt}
 use Rattle.element.specs.Element.Laws.{frames-length}
@@ -97,7 +97,7 @@ module _ (P : Plan) (x depth held : ℕ) (bs ns : List ℕ) (deep : depth < dept
         frames = frames;
         went = went;
         all = eqb went (length (take held (N .list))) && lastGiven (meet (named P x) (P .plain)) (sureAt P frames (length fs));
-        joins = lastGiven (named P x) (possAt P fs (length fs));
+        joins = lastGiven (named P x) (possibleAt P fs (length fs));
       }
 
   opening-is : opening P x (usedIn depth held E N) ≡ made (wentIf (ltb (length (risen .kept)) (length fs)) P frames (take held (N .list)))
@@ -105,7 +105,7 @@ module _ (P : Plan) (x depth held : ℕ) (bs ns : List ℕ) (deep : depth < dept
   opening-is = refl
 
   pub opening-told :
-      (p around top went plain sure : ℕ) (joins certain all : Bool) (E₁ : Elements) → p ≡ named P x → around ≡ possAt P (E .list) depth →
+      (p around top went plain sure : ℕ) (joins certain all : Bool) (E₁ : Elements) → p ≡ named P x → around ≡ possibleAt P (E .list) depth →
       joins ≡ lastGiven p around → _≡_ {A = Risen} (record { top = top; elements = E₁ }) (pushedIn P x depth E) →
       went ≡ wentIf (ltb top depth) P (take (depth + 1) (E₁ .list)) (take held (N .list)) → plain ≡ P .plain → sure ≡ sureAt P (E₁ .list) depth →
       certain ≡ lastGiven (meet p plain) sure → all ≡ allGo went held certain →
@@ -123,13 +123,14 @@ module _ (P : Plan) (x depth held : ℕ) (bs ns : List ℕ) (deep : depth < dept
       let s : sure ≡ sureAt P frames (length fs) =
       es ∙ ap (λ (X : Elements). sureAt P (X .list) depth) one ∙ sure-front P frames rest depth (omega (arith, frames-after))
       ∙ ap (sureAt P frames) (sym fs-length) in
-      let u : around ≡ possAt P fs (length fs) =
-      ea ∙ ap (λ l. possAt P l depth) (sym (take-append-drop depth (E .list))) ∙ possible-front P fs (drop depth (E .list)) depth (omega (arith, fs-length))
-      ∙ ap (possAt P fs) (sym fs-length) in
+      let u : around ≡ possibleAt P fs (length fs) =
+      ea ∙ ap (λ l. possibleAt P l depth) (sym (take-append-drop depth (E .list)))
+      ∙ possible-front P fs (drop depth (E .list)) depth (omega (arith, fs-length))
+      ∙ ap (possibleAt P fs) (sym fs-length) in
       let c : certain ≡ C = ec ∙ ap₂ lastGiven (ap₂ meet ep el) s in
       let a : all ≡ (eqb W (length (take held (N .list))) && C) =
       eall ∙ ap₂ (λ k b. pick b (eqb k held) false) w c ∙ pick-and C (eqb W held) ∙ ap (λ h. eqb W h && C) (sym ws-length) in
-      let j : joins ≡ lastGiven (named P x) (possAt P fs (length fs)) = ej ∙ ap₂ lastGiven ep u in
+      let j : joins ≡ lastGiven (named P x) (possibleAt P fs (length fs)) = ej ∙ ap₂ lastGiven ep u in
       three w a j one ∙ ap (openedBy depth E) (sym opening-is)
     where
       three :
@@ -157,7 +158,7 @@ module _ (P : Plan) (x depth held : ℕ) (bs ns : List ℕ) (deep : depth < dept
       (lt-leb heldLimit (length (take held (N .list)) - opening P x (usedIn depth held E N) .went) (omega (arith, ws-length))))
 
   pub over-dead :
-      (p around : ℕ) → p ≡ named P x → around ≡ possAt P (E .list) depth → lastGiven p around ≡ false → false ≡ overIn P x depth held E N
+      (p around : ℕ) → p ≡ named P x → around ≡ possibleAt P (E .list) depth → lastGiven p around ≡ false → false ≡ overIn P x depth held E N
   unfolding overIn over usedIn
   over-dead p around ep ea dead =
       sym
@@ -166,8 +167,9 @@ module _ (P : Plan) (x depth held : ℕ) (bs ns : List ℕ) (deep : depth < dept
       (ap (λ (o : Opening). o .joins) opening-is
       ∙ sym
       (ap₂ lastGiven ep
-      (ea ∙ ap (λ l. possAt P l depth) (sym (take-append-drop depth (E .list))) ∙ possible-front P fs (drop depth (E .list)) depth (omega (arith, fs-length))
-      ∙ ap (possAt P fs) (sym fs-length)))
+      (ea ∙ ap (λ l. possibleAt P l depth) (sym (take-append-drop depth (E .list)))
+      ∙ possible-front P fs (drop depth (E .list)) depth (omega (arith, fs-length))
+      ∙ ap (possibleAt P fs) (sym fs-length)))
       ∙ dead))
 
   pub over-told :
@@ -313,7 +315,7 @@ module _ (P : Plan) (x : ℕ) (n : Numbers) (E : Elements) (N : Queue) (out : Li
 
 pub move-told :
     (P : Plan) (depth held : ℕ) (E : Elements) (N : Queue) (met ready from : ℕ) (w : Moved) → met ≡ frameAt E (depth - 1) .met →
-    ready ≡ possAt P (E .list) (depth - 1) → from ≡ length (cut levelOf depth (take held (N .list)) .before) →
+    ready ≡ possibleAt P (E .list) (depth - 1) → from ≡ length (cut levelOf depth (take held (N .list)) .before) →
     w ≡ movedFrom P met ready (depth - 1) held from from N → w ≡ movedOut P depth held E N
 unfolding movedOut
 move-told P depth held E N met ready from w em ea ef ew =

@@ -24,7 +24,7 @@ use Rattle.choice.specs.Pick.{pick, pick-yes, pick-no}
 use Rattle.words.specs.Words.{words, bytesOf, Bytes}
 use Rattle.words.specs.Words.Laws.{words-length, bytes-words, bytes-length}
 use Rattle.words.specs.Rows.{rows, field, rows-length, rows-at, rows-same, rows-put, is-rows, field-put, field-other}
-use Rattle.words.specs.Records.{Shape, Records, setAt, room, blank, withField, spareOf, recordsOf, recordsIn, at, putAt, numberAt, numbersOf, laid}
+use Rattle.words.specs.Records.{Shape, Records, setAt, room, blank, withField, spareOf, recordsOf, recordsIn, at, putAt, numberAt, laidNumbers, laid}
 
 pub record Whole {A : Type 0} (S : Shape A) : Type 0 where
   pub some : 0 < S .wide
@@ -137,8 +137,8 @@ module _ {A : Type 0} (S : Shape A) (whole : Whole S) where
           (ap (λ s. getD s (g - S .fields) 0) (rows-at (S .count) (λ k. spareOf S (field w ws k)) [] i hi)
           ∙ spare-at (field w ws i) g (omega arith) hg)))
 
-  numbers-of : (ws : List ℕ) → length ws ≡ w * S .count → numbersOf S (recordsOf S ws) ≡ ws
-  unfolding numbersOf
+  numbers-of : (ws : List ℕ) → length ws ≡ w * S .count → laidNumbers S (recordsOf S ws) ≡ ws
+  unfolding laidNumbers
   numbers-of ws e =
       sym
       (is-rows (w * S .count) (λ j. numberAt S (recordsOf S ws) (j / w) (j % w)) 0 ws e
@@ -148,8 +148,8 @@ module _ {A : Type 0} (S : Shape A) (whole : Whole S) where
       under j h = div-lt-iff-lt-mul {k = w} {x = j} {y = S .count} (whole .some) .1 (subst (λ n. j < n) (mul-comm w (S .count)) h)
 
   pub laid-length : (R : Records A) → length (laid S R) ≡ room S
-  unfolding room laid numbersOf
-  laid-length R = bytes-length (numbersOf S R) ∙ ap (λ n. 4 * n) (rows-length (w * S .count) (λ j. numberAt S R (j / w) (j % w)))
+  unfolding room laid laidNumbers
+  laid-length R = bytes-length (laidNumbers S R) ∙ ap (λ n. 4 * n) (rows-length (w * S .count) (λ j. numberAt S R (j / w) (j % w)))
 
   pub records-laid : (bs : List ℕ) → length bs ≡ room S → Bytes bs → laid S (recordsIn S bs) ≡ bs
   unfolding room recordsIn laid

@@ -17,7 +17,7 @@ use Rattle.choice.specs.Pick.{pick-true}
 use Rattle.words.specs.Words.{word, words, bytesOf}
 use Rattle.words.specs.Words.Laws.{words-at, word-bytes}
 use Rattle.words.specs.Rows.{field, rows-at}
-use Rattle.words.specs.Records.{Shape, Records, blank, recordsIn, at, numberAt, numbersOf, laid}
+use Rattle.words.specs.Records.{Shape, Records, blank, recordsIn, at, numberAt, laidNumbers, laid}
 use Rattle.words.specs.Records.Laws.{Whole, in-room, list-length, at-is}
 
 -- a number of 4 bytes is read as it was laid, whatever stands beside it
@@ -75,12 +75,12 @@ module _ {A : Type 0} (S : Shape A) (whole : Whole S) where
 
     read-number :
         (i g : ℕ) → i < S .count → g < S .fields → S .field g (at S R i) < 4294967296 → field w (words (laid S R)) i g ≡ S .field g (at S R i)
-    unfolding laid numbersOf
+    unfolding laid laidNumbers
     read-number i g hi hg small =
-        let there : getD (numbersOf S R) (w * i + g) 0 ≡ S .field g (at S R i) =
+        let there : getD (laidNumbers S R) (w * i + g) 0 ≡ S .field g (at S R i) =
         rows-at (w * S .count) (λ j. numberAt S R (j / w) (j % w)) 0 (w * i + g) (in-room w (S .count) i g hi (omega (arith, whole .fits)))
         ∙ number-is i g hg in
-        laid-number (numbersOf S R) (w * i + g) (subst (λ v. v < 4294967296) (sym there) small) ∙ there
+        laid-number (laidNumbers S R) (w * i + g) (subst (λ v. v < 4294967296) (sym there) small) ∙ there
 
     pub read-back :
         (d : ℕ) → d ≤ S .count → ((i : ℕ) → i < d → (g : ℕ) → g < S .fields → S .field g (at S R i) < 4294967296) →
