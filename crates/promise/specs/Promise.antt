@@ -152,7 +152,7 @@ module _ {b : List ℕ} {es : List Event} {l : Housed} (o : Of b es l) where
         bounds = o .bounds;
         kept = o .kept;
         stands =
-            stands-housed (decode b) (document es) (sessionNumbers (l .session)) (l .elements) (l .nodes) E N longE longN (same .elements) (same .nodes)
+            stands-lent (decode b) (document es) (sessionNumbers (l .session)) (l .elements) (l .nodes) E N longE longN (same .elements) (same .nodes)
             (o .stands);
       }
 

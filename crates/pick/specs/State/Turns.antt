@@ -149,7 +149,7 @@ module _ {b : List ℕ} {file : File} (s : State) (input E N : List ℕ) (u : Tu
           bytes = u .bytes ++ m .bytes;
           nodes = u .nodes;
           received = received (u .received) (m .bytes) (m .given);
-          offered = progress-as (ap (λ (x : Session). lent x E N) (m .session-same)) (m .taken-same) (m .refused-so) (read-progress (s′ .ended) refl);
+          offered = progress-as (ap (λ (x : Session). housed x E N) (m .session-same)) (m .taken-same) (m .refused-so) (read-progress (s′ .ended) refl);
           enough = u .enough;
           rest =
               m .behind

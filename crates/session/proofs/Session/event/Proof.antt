@@ -14,7 +14,7 @@ refuse-lent-requires c κs = search needs
 
 returns : tie.Need-returns
 returns c = let args = c .before .before .before .before .before .before .args in
-    event-housed (args .self) (args .bytes .now) (args .elements .now) (args .nodes .now) (args .out .now) _ (c .before .refuse-lent .ensures .0)
+    event-lent (args .self) (args .bytes .now) (args .elements .now) (args .nodes .now) (args .out .now) _ (c .before .refuse-lent .ensures .0)
     (c .if1 .taken)
 
 slice-relend-prefix-within : tie.Need-slice-relend-prefix-within
