@@ -45,12 +45,19 @@ turn-requires c κs =
 
 loop-less : tie.Need-loop-less Inv-loop μ-loop
 loop-less c =
-    let far = c .before .before .before .before .before .before .before .before .before .before .before .before in
-    let start = far .before .before .before .before .before .before .before .before .before .before .before .before in
-    let l = far .before .before .before .before .before .before .loop in
+    let start =
+    c .before .before .before .before .before .before .before .before .before .before .before .before
+    .before .before .before .before .before .before .before .before .before .before .before .before in
+    let l =
+    c .before .before .before .before .before .before .before .before .before .before .before .before
+    .before .before .before .before .before .before .loop in
     let u = l .inv .1 .1 (start .pre .1 .1 .1 .query) (start .pre .1 .1 .1 .begun) in
-    let tested = far .before .before .before .before .before .more-to-do .ensures in
-    let more = far .before .before .before .before .if1 .taken in
+    let tested =
+    c .before .before .before .before .before .before .before .before .before .before .before .before
+    .before .before .before .before .before .more-to-do .ensures in
+    let more =
+    c .before .before .before .before .before .before .before .before .before .before .before .before
+    .before .before .before .before .if1 .taken in
     turn-less (l .state) (l .input) (l .elements) (l .nodes) u (sym tested ∙ more) (l .inv .1 .0)
     (length (start .args .input .now)) (l .out) _ _ _ _ (omega arith) (omega arith) (omega arith)
     (c .before .before .before .before .before .before .before .before .before .before .turn .ensures)
