@@ -1,0 +1,126 @@
+-- That a session is read from its bytes, and laid in them, as it stands there.
+--
+--   plan-room, room-is, counts-room      how many bytes it keeps of its query, it takes in all, and two counts take, as numbers
+--   numbers-laid         bytes with these numbers are those of the numbers
+--   of-parts             a session by what it keeps of its query and its numbers one by one
+--   rest-room            how long the rest of the bytes is, after what is kept of the query
+--   read-parts           what is kept, copied, and the numbers in the rest are the session in the bytes
+--   put-parts            what is kept, copied over the bytes, and then the numbers in the place of the rest are the bytes of the session
+--   counts-put           two counts written by halves
+--
+-- Assumes nothing.
+use Prim.Native.Nat.{ℕ, _+_, _-_, _*_, _/_, _%_, _≤_}
+use native.Mathlib.Omega.{arith}
+use mathlib.Core.Path.{_≡_, refl, sym, ap, ap₂, _∙_}
+use mathlib.Core.Bool.{not}
+use mathlib.Core.List.{List, [], _∷_, _++_, append-nil}
+use mir.Val.{boolByte}
+use lib.Dec.{eqb}
+use lib.ListN.{length, getD, set, take, drop, length-drop, drop-of-length-le}
+use lib.Seq.{length-take-le, take-all, take-length, take-at}
+use Rattle.words.specs.Words.{words, bytesOf, Bytes}
+use Rattle.words.specs.Words.Laws.{words-length, bytes-words}
+use Rattle.words.specs.Rows.{rows, is-rows}
+use Rattle.words.specs.Records.{recordsIn}
+use Rattle.numbers.specs.Numbers.{Numbers, numbersRoom, recordIn, numbersIn, numbersOf}
+use Rattle.numbers.specs.Numbers.Laws as numbers
+use Rattle.plan_bytes.specs.Kept.{planRoom}
+use Rattle.session.specs.declared.Session.{Session}
+use Rattle.session_c.specs.Laid.{sessionRoom, sessionOf, sessionIn, sessionBytes, countsRoom, countBytes}
+
+pub plan-room : planRoom ≡ 288
+unfolding planRoom
+plan-room = refl
+
+pub room-is : sessionRoom ≡ 308
+unfolding sessionRoom
+room-is = omega (arith, plan-room, numbers.room-is)
+
+pub counts-room : countsRoom ≡ 16
+unfolding countsRoom
+counts-room = refl
+
+-- the numbers
+
+abbrev five : Numbers → List ℕ
+five n = n .depth ∷ n .held ∷ n .opened ∷ n .handed ∷ n .ended ∷ []
+
+five-words : (bs : List ℕ) → length bs ≡ numbersRoom → words bs ≡ five (numbersIn bs)
+unfolding recordIn numbersIn recordsIn rows
+five-words bs l = is-rows 5 (λ i. getD (words bs) i 0) 0 (words bs) (words-length 5 bs (omega (arith, numbers.room-is))) (λ i h. refl)
+
+pub numbers-laid :
+    (bs : List ℕ) (depth held opened handed ended : ℕ) → length bs ≡ numbersRoom → Bytes bs →
+    numbersIn bs ≡ numbersOf depth held opened handed ended → bs ≡ bytesOf (depth ∷ held ∷ opened ∷ handed ∷ ended ∷ [])
+numbers-laid bs depth held opened handed ended l h e =
+    sym (bytes-words 5 bs (omega (arith, numbers.room-is)) h) ∙ ap bytesOf (five-words bs l ∙ ap five e)
+
+pub of-parts :
+    (kept : List ℕ) (n : Numbers) (depth held opened handed ended : ℕ) → depth ≡ n .depth → held ≡ n .held → opened ≡ n .opened →
+    handed ≡ n .handed → ended ≡ n .ended →
+    _≡_ {A = Session} (record { kept = kept; depth = depth; held = held; opened = opened; handed = handed; ended = not (eqb ended 0) }) (sessionOf kept n)
+of-parts kept n depth held opened handed ended e₁ e₂ e₃ e₄ e₅ =
+    λ i. record { kept = kept; depth = e₁ i; held = e₂ i; opened = e₃ i; handed = e₄ i; ended = not (eqb (e₅ i) 0) }
+
+-- the session in bytes
+
+module _ (S : List ℕ) (long : length S ≡ sessionRoom) where
+  pub rest-room : length (take (length S - 288) (drop 288 S)) ≡ numbersRoom
+  rest-room =
+      omega
+      (arith, length-take-le (length S - 288) (drop 288 S) (omega (arith, length-drop 288 S)), numbers.room-is, room-is)
+
+  rest-all : take (length S - 288) (drop 288 S) ≡ drop planRoom S
+  rest-all = take-all (length S - 288) (drop 288 S) (omega (arith, length-drop 288 S)) ∙ ap (λ k. drop k S) (sym plan-room)
+
+  -- what is kept of the query, copied over the bytes k
+  kept-all : (k kept : List ℕ) (n : ℕ) → length k ≡ 288 → n ≡ 288 → kept ≡ take n (take 288 S) ++ drop n k → kept ≡ take planRoom S
+  kept-all k kept n lk ln e =
+      let l : length (take 288 S) ≤ n = omega (arith, length-take-le 288 S (omega (arith, room-is))) in
+      let over : length k ≤ n = omega arith in
+      e ∙ ap₂ _++_ (take-all n (take 288 S) l) (drop-of-length-le k over) ∙ append-nil (take 288 S) ∙ ap (λ i. take i S) (sym plan-room)
+
+  pub read-parts :
+      (k kept : List ℕ) (n : ℕ) (s : Session) → kept ≡ take n (take 288 S) ++ drop n k →
+      s ≡ sessionOf kept (numbersIn (take (length S - 288) (drop 288 S))) → length k ≡ 288 → n ≡ 288 → s ≡ sessionIn S
+  unfolding sessionIn
+  read-parts k kept n s ek es lk ln = es ∙ ap₂ (λ (x y : List ℕ). sessionOf x (numbersIn y)) (kept-all k kept n lk ln ek) rest-all
+
+-- what is kept, copied over the bytes S, and then the numbers in the place of the rest
+pub put-parts :
+    (s : Session) (S X nums : List ℕ) → length (s .kept) ≡ 288 → X ≡ take (length (s .kept)) (s .kept) ++ drop (length (s .kept)) S →
+    nums ≡ bytesOf (s .depth ∷ s .held ∷ s .opened ∷ s .handed ∷ boolByte (s .ended) ∷ []) →
+    take 288 X ++ (nums ++ drop (length X - 288) (drop 288 X)) ≡ sessionBytes s
+unfolding sessionBytes
+put-parts s S X nums whole eX en =
+    ap₂ (λ (x y : List ℕ). x ++ (nums ++ y)) front none ∙ ap (λ (y : List ℕ). s .kept ++ y) (append-nil nums ∙ en)
+  where
+    front : take 288 X ≡ s .kept
+    front =
+        ap (take 288) (eX ∙ ap (λ (x : List ℕ). x ++ drop (length (s .kept)) S) (take-length (s .kept)))
+        ∙ take-at (s .kept) (drop (length (s .kept)) S) 288 whole
+
+    none : drop (length X - 288) (drop 288 X) ≡ []
+    none = let over : length (drop 288 X) ≤ length X - 288 = omega (arith, length-drop 288 X) in drop-of-length-le (drop 288 X) over
+
+-- four numbers one after the other
+
+four-set : (ws : List ℕ) (a b c d : ℕ) → length ws ≡ 4 → set (set (set (set ws 0 a) 1 b) 2 c) 3 d ≡ a ∷ b ∷ c ∷ d ∷ []
+four-set [] a b c d l = absurd (omega arith)
+four-set (x ∷ []) a b c d l = absurd (omega arith)
+four-set (x ∷ y ∷ []) a b c d l = absurd (omega arith)
+four-set (x ∷ y ∷ z ∷ []) a b c d l = absurd (omega arith)
+four-set (x ∷ y ∷ z ∷ w ∷ []) a b c d l = refl
+four-set (x ∷ y ∷ z ∷ w ∷ v ∷ ws) a b c d l = absurd (omega arith)
+
+pub counts-put :
+    (C C₁ C₂ C₃ C₄ : List ℕ) (a b : ℕ) → length C ≡ countsRoom → length C₄ ≡ countsRoom → Bytes C₄ →
+    words C₁ ≡ set (words C) 0 (a % 4294967296) → words C₂ ≡ set (words C₁) 1 (a / 4294967296) → words C₃ ≡ set (words C₂) 2 (b % 4294967296) →
+    words C₄ ≡ set (words C₃) 3 (b / 4294967296) → C₄ ≡ countBytes a b
+unfolding countBytes
+counts-put C C₁ C₂ C₃ C₄ a b l l₄ h e₁ e₂ e₃ e₄ =
+    sym (bytes-words 4 C₄ (omega (arith, counts-room)) h)
+    ∙ ap bytesOf
+    (e₄
+    ∙ ap (λ ws. set ws 3 (b / 4294967296)) (e₃ ∙ ap (λ ws. set ws 2 (b % 4294967296)) (e₂ ∙ ap (λ ws. set ws 1 (a / 4294967296)) e₁))
+    ∙ four-set (words C) _ _ _ _ (words-length 4 C (omega (arith, counts-room))))

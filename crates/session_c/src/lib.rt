@@ -1,0 +1,224 @@
+// The session's calls for callers in C and Rust. The session stands in 308 bytes that the caller lends with each call: 288 that are kept of the query
+// (crate plan_bytes) and 20 of numbers (crate numbers). Answers are numbers: 0, or the refusal's, and 256 times what comes with it.
+ghost use mathlib.Core.Path.{_≡_};
+ghost use mathlib.Core.List.{[], _∷_};
+ghost use lib.ListN.{length};
+ghost use Rattle.words.specs.Words.{bytesOf};
+ghost use Rattle.numbers.specs.Numbers.{numbersRoom, numbersIn};
+ghost use Rattle.query_c.specs.Packed.{packed};
+ghost use Rattle.session.specs.Begin.{said};
+ghost use Rattle.session_c.specs.Laid.{sessionRoom, sessionOf, sessionIn, sessionBytes, countsRoom, countBytes};
+ghost use Rattle.session_c.specs.Exported.{startedBy, numberOf, leftBy, movedBy, endNumber, countedBy};
+ghost use Rattle.session_c.specs.Exported.{ExportBegins, ExportTakes, ExportRuns, ExportFinishes};
+use session::Answer;
+use session::Finish;
+use session::Session;
+use session::Start;
+
+// How many bytes a session takes.
+pub const ROOM: usize = plan_bytes::ROOM + numbers::ROOM;
+
+// How many bytes two counts take: 8 each, low byte first.
+pub const COUNTS: usize = 16;
+
+// The answer to a session of another length, and to counts of another length: no refusal has this number.
+pub const NO_SESSION: u64 = 255;
+
+// A session with what it keeps of its query, and with the numbers in bytes.
+fn numbered(kept: [u8; 288], numbers: &[u8]) -> Session
+    requires { ⌜ length (now numbers) ≡ numbersRoom ⌝ }
+    ensures { λ r. ⌜ r ≡ sessionOf kept (numbersIn (now (numbers .entry))) ⌝ }
+{
+    Session {
+        kept: kept,
+        depth: numbers::get(numbers, numbers::DEPTH),
+        held: numbers::get(numbers, numbers::HELD),
+        opened: numbers::get(numbers, numbers::OPENED),
+        handed: numbers::get(numbers, numbers::HANDED),
+        ended: numbers::get(numbers, numbers::ENDED) != 0,
+    }
+}
+
+// The session in bytes: any 308 bytes are one.
+fn session_in(room: &[u8]) -> Session
+    requires { ⌜ length (now room) ≡ sessionRoom ⌝ }
+    ensures { λ r. ⌜ r ≡ sessionIn (now (room .entry)) ⌝ }
+{
+    let mut kept = [0u8; 288];
+    bytes::copy(&room[..plan_bytes::ROOM], &mut kept);
+    numbered(kept, &room[plan_bytes::ROOM..])
+}
+
+// The numbers of a session in bytes.
+fn put_numbers(numbers: &mut [u8], depth: u32, held: u32, opened: u32, handed: u32, ended: u32)
+    requires { ⌜ length (now numbers) ≡ numbersRoom ⌝ }
+    ensures { λ r. ⌜ now (numbers .exit) ≡ bytesOf (depth ∷ held ∷ opened ∷ handed ∷ ended ∷ []) ⌝ }
+{
+    numbers::write(numbers, depth, held, opened, handed, ended);
+}
+
+// A session in bytes.
+fn put_session(session: Session, room: &mut [u8])
+    requires { ⌜ length (now room) ≡ sessionRoom ⌝ }
+    ensures { λ r. ⌜ now (room .exit) ≡ sessionBytes session ⌝ }
+{
+    let kept = session.kept;
+    bytes::copy(&kept, room);
+    put_numbers(
+        &mut room[plan_bytes::ROOM..],
+        session.depth,
+        session.held,
+        session.opened,
+        session.handed,
+        session.ended as u32,
+    );
+}
+
+// Begin's answer as a number. The session is laid in bytes only where it began.
+fn answer_begin(answer: Start, first: Session, room: &mut [u8]) -> u64
+    requires { ⌜ length (now room) ≡ sessionRoom ⌝ }
+    ensures { λ r. ⌜ (r ≡ packed (said answer)) × (now (room .exit) ≡ startedBy (said answer) first (now (room .entry))) ⌝ }
+{
+    match answer {
+        Start::Begun => {
+            put_session(first, room);
+            0
+        }
+        Start::ShortRoom => limits::SHORT_ROOM as u64,
+        Start::BadLength => 9,
+        Start::BadStep(k) => 10 + 256 * (k as u64),
+    }
+}
+
+// A session for a query, in the 308 bytes of `session`, whatever they held: 0, or the refusal's number, and 256 times the step's number with it.
+#[no_mangle]
+pub extern "C" fn compassflare_begin(
+    query: &[u8],
+    elements: &[u8],
+    nodes: &[u8],
+    session: &mut [u8],
+) -> u64
+    ensures { λ r. ⌜ ExportBegins (now (query .entry)) (now (elements .entry)) (now (nodes .entry)) (now (session .entry)) r
+        (now (session .exit)) ⌝ }
+{
+    if session.len() != ROOM {
+        return NO_SESSION;
+    }
+    let begun = session::begin(query, elements, nodes);
+    let answer = begun.answer;
+    let first = begun.session;
+    answer_begin(answer, first, session)
+}
+
+// An event's answer as a number. The session in bytes changes only where the event was taken.
+fn answer_event(answer: Answer, next: Session, room: &mut [u8]) -> u64
+    requires { ⌜ length (now room) ≡ sessionRoom ⌝ }
+    ensures { λ r. ⌜ (r ≡ numberOf answer) × (now (room .exit) ≡ leftBy answer next (now (room .entry))) ⌝ }
+{
+    match answer {
+        Answer::Refused(n) => n as u64,
+        Answer::Taken(k) => {
+            put_session(next, room);
+            256 * (k as u64)
+        }
+    }
+}
+
+// Takes one event: 256 times how many list records stand at the start of `out`, or the refusal's number.
+#[no_mangle]
+pub extern "C" fn compassflare_event(
+    session: &mut [u8],
+    bytes: &[u8],
+    elements: &mut [u8],
+    nodes: &mut [u8],
+    out: &mut [u8],
+) -> u64
+    ensures { λ r. ⌜ ExportTakes (now (session .entry)) (now (bytes .entry)) (now (elements .entry)) (now (nodes .entry)) (now (out .entry)) r
+        (now (session .exit)) (now (elements .exit)) (now (nodes .exit)) (now (out .exit)) ⌝ }
+{
+    if session.len() != ROOM {
+        return NO_SESSION;
+    }
+    let step = session_in(&*session).event(bytes, elements, nodes, out);
+    let answer = step.answer;
+    let next = step.session;
+    answer_event(answer, next, session)
+}
+
+// Two counts in bytes.
+fn put_counts(counts: &mut [u8], first: u64, second: u64)
+    requires { ⌜ length (now counts) ≡ countsRoom ⌝ }
+    ensures { λ r. ⌜ now (counts .exit) ≡ countBytes first second ⌝ }
+{
+    words::put(counts, 0, (first % 4294967296) as u32);
+    words::put(counts, 1, (first / 4294967296) as u32);
+    words::put(counts, 2, (second % 4294967296) as u32);
+    words::put(counts, 3, (second / 4294967296) as u32);
+}
+
+// The session in bytes changes only where an event was taken.
+fn put_moved(taken: usize, next: Session, room: &mut [u8])
+    requires { ⌜ length (now room) ≡ sessionRoom ⌝ }
+    ensures { λ r. ⌜ now (room .exit) ≡ movedBy taken next (now (room .entry)) ⌝ }
+{
+    if taken == 0 {
+        return;
+    }
+    put_session(next, room);
+}
+
+// Takes a block of events: 0, or the number of the refusal at which it stopped. `counts` is how many events were taken, and how many list records stand at
+// the start of `out`.
+#[no_mangle]
+pub extern "C" fn compassflare_run(
+    session: &mut [u8],
+    events: &[u8],
+    elements: &mut [u8],
+    nodes: &mut [u8],
+    out: &mut [u8],
+    counts: &mut [u8],
+) -> u64
+    ensures { λ r. ⌜ ExportRuns (now (session .entry)) (now (events .entry)) (now (elements .entry)) (now (nodes .entry)) (now (out .entry))
+        (now (counts .entry)) r (now (session .exit)) (now (elements .exit)) (now (nodes .exit)) (now (out .exit)) (now (counts .exit)) ⌝ }
+{
+    if session.len() != ROOM {
+        return NO_SESSION;
+    }
+    if counts.len() != COUNTS {
+        return NO_SESSION;
+    }
+    let ran = session_in(&*session).run(events, elements, nodes, out);
+    let next = ran.session;
+    put_moved(ran.taken, next, session);
+    put_counts(counts, ran.taken as u64, ran.listed as u64);
+    ran.refusal as u64
+}
+
+// Finish's answer as a number.
+fn answer_finish(answer: Finish, counts: &mut [u8]) -> u64
+    requires { ⌜ length (now counts) ≡ countsRoom ⌝ }
+    ensures { λ r. ⌜ (r ≡ endNumber answer) × (now (counts .exit) ≡ countedBy answer (now (counts .entry))) ⌝ }
+{
+    match answer {
+        Finish::Refused(n) => n as u64,
+        Finish::Ended(opened, handed) => {
+            put_counts(counts, opened as u64, handed as u64);
+            0
+        }
+    }
+}
+
+// "it changes nothing and may be asked again": 0, or the refusal's number. `counts` is how many nodes were opened, and how many handed out.
+#[no_mangle]
+pub extern "C" fn compassflare_finish(session: &[u8], counts: &mut [u8]) -> u64
+    ensures { λ r. ⌜ ExportFinishes (now (session .entry)) (now (counts .entry)) r (now (counts .exit)) ⌝ }
+{
+    if session.len() != ROOM {
+        return NO_SESSION;
+    }
+    if counts.len() != COUNTS {
+        return NO_SESSION;
+    }
+    let answer = session_in(session).finish();
+    answer_finish(answer, counts)
+}
