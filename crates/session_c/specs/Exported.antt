@@ -28,7 +28,7 @@ use Rattle.session.specs.declared.Finish.the-variants as finish
 use Rattle.session.specs.Begin.{Begun, begun}
 use Rattle.session.specs.Event.{Done, event}
 use Rattle.session.specs.Event as session
-use Rattle.session.specs.Run.{Lent, lent, eventAt}
+use Rattle.session.specs.Run.{Housed, housed, eventAt}
 use Rattle.session_c.specs.Laid.{sessionRoom, sessionIn, sessionBytes, countsRoom, countBytes}
 
 abbrev pub noSession : ℕ
@@ -105,7 +105,7 @@ unfoldable pub movedBy : ℕ → Session → List ℕ → List ℕ
 movedBy n t S = pick (eqb n 0) S (sessionBytes t)
 
 -- the counts are how many events were taken and how many list records stand at the start of the buffer
-abbrev pub blockedWith : List ℕ → Fed Lent → Blocked
+abbrev pub blockedWith : List ℕ → Fed Housed → Blocked
 blockedWith S f =
     record {
       number = f .refusal;
@@ -122,7 +122,7 @@ unblocked S E N out C = record { number = noSession; session = S; elements = E; 
 unfoldable pub blocked : List ℕ → List ℕ → List ℕ → List ℕ → List ℕ → List ℕ → Blocked
 blocked S es E N out C =
     pick (eqb (length S) sessionRoom)
-    (pick (eqb (length C) countsRoom) (blockedWith S (fed eventAt (length es / 8) (lent (sessionIn S) E N) es out)) (unblocked S E N out C))
+    (pick (eqb (length C) countsRoom) (blockedWith S (fed eventAt (length es / 8) (housed (sessionIn S) E N) es out)) (unblocked S E N out C))
     (unblocked S E N out C)
 
 abbrev pub ExportRuns :

@@ -85,8 +85,8 @@ fn answer_begin(answer: Start, first: Session, room: &mut [u8]) -> u64
             0
         }
         Start::ShortRoom => limits::SHORT_ROOM as u64,
-        Start::BadLength => 9,
-        Start::BadStep(k) => 10 + 256 * (k as u64),
+        Start::BadLength => limits::BAD_LENGTH as u64,
+        Start::BadStep(k) => limits::BAD_STEP as u64 + 256 * (k as u64),
     }
 }
 

@@ -23,11 +23,17 @@ cast-result c = search needs
 enum-told-3 : tie.Need-enum-told-3
 enum-told-3 c = search needs
 
+cast-result-2 : tie.Need-cast-result-2
+cast-result-2 c = search needs
+
 enum-known-answer : tie.Need-enum-known-answer
 enum-known-answer c = search needs
 
-cast-result-2 : tie.Need-cast-result-2
-cast-result-2 c = search needs
+cast-result-3 : tie.Need-cast-result-3
+cast-result-3 c = search needs
+
+cast-result-4 : tie.Need-cast-result-4
+cast-result-4 c = search needs
 
 mul-result : tie.Need-mul-result
 mul-result c = search needs
@@ -75,8 +81,10 @@ answer-begin-spec =
     enum-told-2
     cast-result
     enum-told-3
-    enum-known-answer
     cast-result-2
+    enum-known-answer
+    cast-result-3
+    cast-result-4
     mul-result
     add-result
     same-length

@@ -22,7 +22,7 @@ use Rattle.session.specs.Begin.{Begun, said, BeginGives}
 use Rattle.session.specs.Event.{event, EventGives, FinishGives}
 use Rattle.session.specs.Event as session
 use Rattle.session.specs.Event.Laws.{event-is, finish-is}
-use Rattle.session.specs.Run.{Lent, lent, eventAt, RunGives}
+use Rattle.session.specs.Run.{Housed, housed, eventAt, RunGives}
 use Rattle.session_c.specs.Laid.{sessionRoom, sessionIn, countsRoom, countBytes}
 use Rattle.session_c.specs.Exported.{Began, startedBy, beganWith, began, ExportBegins}
 use Rattle.session_c.specs.Exported.{Took, numberOf, leftBy, tookWith, took, ExportTakes}
@@ -94,7 +94,7 @@ module _ (S es E N out C : List ℕ) where
     unfolding blocked
     runs-parts s d S′ E′ N′ out′ C′ wide e g eS eC =
         ap₂ (λ (X Y : List ℕ). record { number = d .refusal; session = X; elements = E′; nodes = N′; out = out′; counts = Y }) eS eC
-        ∙ ap (blockedWith S) (g ∙ ap (λ (x : Session). fed eventAt (length es / 8) (lent x E N) es out) e)
+        ∙ ap (blockedWith S) (g ∙ ap (λ (x : Session). fed eventAt (length es / 8) (housed x E N) es out) e)
         ∙ sym (pick-true _ _ _ (eq-eqb _ _ long) ∙ pick-true _ _ _ (eq-eqb _ _ wide))
 
   pub runs-one :
