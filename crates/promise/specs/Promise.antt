@@ -13,19 +13,17 @@
 -- Assumes that the bytes of a query are bytes. NOT promised: anything but safety of a session value that no calls reach, or of room in which the records in
 -- use are others than the last call left.
 use Prim.Native.Nat.{ℕ, _+_, _*_, _≤_, _<_}
-use native.Mathlib.Nat.{mul-zero}
 use native.Mathlib.Omega.{arith}
 use mathlib.Core.Path.{_≡_, refl, sym, ap, ap₂, _∙_, subst}
 use mathlib.Core.Bool.{Bool, true, false, not, _||_}
 use mathlib.Core.List.{List, [], _++_}
 use mathlib.Core.Option.{Option, none, some}
-use mir.Val.{boolByte}
-use lib.Dec.{T, eqb, leb, ltb}
+use lib.Dec.{T, eqb, ltb}
 use lib.ListN.{length, take, drop, take-append-drop}
-use borrow.Author.Tests.{eq-eqb, ne-eqb, ltb-false, leb-true}
+use borrow.Author.Tests.{eq-eqb, ne-eqb, ltb-false}
 use Rattle.choice.specs.Pick.{pick, pick-true, pick-false, pick-known, never}
 use Rattle.choice.specs.Count.{boolByte-read}
-use Rattle.meaning.specs.Limits.{elementRecord, waitingRecord, elementsNeeded, nodesNeeded, outputNeeded, heldLimit, nodeLimit}
+use Rattle.meaning.specs.Limits.{elementRecord, waitingRecord, elementsNeeded, nodesNeeded, outputNeeded}
 use Rattle.meaning.specs.Limits.Laws.{node-limit-is}
 use Rattle.meaning.specs.Refusals.{shortOutput, shortRoom, unfinished}
 use Rattle.meaning.specs.Query.{Query, admits}
@@ -47,7 +45,6 @@ use Rattle.plan.specs.Plan.{plan}
 use Rattle.plan.specs.Planned.{planOf}
 use Rattle.plan_bytes.specs.Kept.{keptIn}
 use Rattle.plan_bytes.specs.Kept.Planned.{kept-admitted}
-use Rattle.records.specs.Read.{shown}
 use Rattle.records.specs.Write.{buffer}
 use Rattle.records.specs.Write.Laws.{Nodes, nodesIn-recordsOf, buffer-none}
 use Rattle.words.specs.Records.{laid}
@@ -59,7 +56,7 @@ use Rattle.node.specs.Node.{Queue, queueIn}
 use Rattle.node.specs.Node.Laws.{nodes-length}
 use Rattle.nodes.specs.Nodes.{numbers}
 use Rattle.numbers.specs.Numbers.{Numbers}
-use Rattle.step.specs.Step.{After, refusedWith, step}
+use Rattle.step.specs.Step.{After, refusedWith}
 use Rattle.right.specs.Used.{stateIn, same-state}
 use Rattle.right.specs.Right as right
 use Rattle.right.specs.Right.{Stands, Within, newly, StepOwed, refuses, takes, stands-begun, step-right}

@@ -115,7 +115,7 @@ nodesOf rs = handedOut (map answerOf rs)
 abbrev pub waiting : Housed → List ℕ
 waiting l = numbers (take (l .session .held) (queueIn (take nodesNeeded (l .nodes)) .list))
 
--- "15 comes before 9 and 10"; "beside a refused query's number stands one fixed blank session"; beside an admitted one stands the session of no uses, of
+-- "at the start before 9 and 10"; "beside a refused query's number stands one fixed blank session"; beside an admitted one stands the session of no uses, of
 -- which Promised speaks
 pub record Begins (b E N : List ℕ) (r : Begun) : Type 0 where
   pub small : tooSmall (length E) (length N) ≡ true → said (r .answer) ≡ query.refused shortRoom

@@ -25,7 +25,6 @@ use Rattle.engine.specs.Quick.{Waiting, State, Opening, opening, openingFrom, j
 use Rattle.engine.specs.Quick.Snoc.{framesAfter-length, went-le}
 use Rattle.records.specs.Write.{buffer}
 use Rattle.element.specs.Element.{Elements}
-use Rattle.elements.specs.Elements as elements
 use Rattle.node.specs.Node.{Queue}
 use Rattle.nodes.specs.Nodes.{numbers, Joined, joined, handedOut}
 use Rattle.numbers.specs.Numbers.{Numbers}

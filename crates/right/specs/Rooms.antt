@@ -8,18 +8,18 @@
 use Prim.Native.Nat.{ℕ, _*_, _≤_, _<_}
 use native.Mathlib.Nat.{min-le-right}
 use native.Mathlib.Omega.{arith}
-use mathlib.Core.Path.{_≡_, refl, sym, ap, ap₂, _∙_, subst}
+use mathlib.Core.Path.{_≡_, refl, sym, ap, _∙_, subst}
 use mathlib.Core.List.{List, _++_}
-use lib.ListN.{length, getD, take, length-take}
+use lib.ListN.{length, take, length-take}
 use lib.Seq.{take-take, take-at, getD-take, length-take-le}
 use Rattle.meaning.specs.Limits.{depthLimit, nodeLimit, elementRecord, waitingRecord, elementsNeeded, nodesNeeded}
 use Rattle.meaning.specs.Limits.Laws.{depth-is, held-is, element-record-is, waiting-record-is, elements-is, nodes-is}
 use Rattle.meaning.specs.Query.{Query}
 use Rattle.meaning.specs.Document.{Doc, count, depth}
 use Rattle.plan.specs.Every.{Every}
-use Rattle.engine.specs.Quick.{Frame, Waiting, State}
+use Rattle.engine.specs.Quick.{State}
 use Rattle.engine.specs.Quick.Of.{quickState}
-use Rattle.words.specs.Records.{Shape, Records, blank, recordsIn, at, laid}
+use Rattle.words.specs.Records.{Shape, recordsIn, at, laid}
 use Rattle.words.specs.Records.Laws.{Whole}
 use Rattle.words.specs.Records.Used as used
 use Rattle.element.specs.Element as element

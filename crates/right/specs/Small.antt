@@ -8,11 +8,9 @@
 --
 -- Assumes nothing.
 use Prim.Native.Nat.{ℕ, zero, suc, _+_, _^_, _≤_, _<_}
-use native.Mathlib.Nat.{lt-of-lt-of-le, le-trans}
+use native.Mathlib.Nat.{lt-of-lt-of-le}
 use native.Mathlib.Omega.{arith}
-use mathlib.Core.Path.{_≡_, refl, sym, ap, _∙_, subst}
-use mathlib.Core.Bool.{Bool, not, _&&_}
-use mathlib.Core.List.{List, [], _∷_, _++_}
+use mathlib.Core.List.{List, [], _∷_}
 use lib.Dec.{T, leb, leb→le}
 use lib.ListN.{length, getD, length-append}
 use lib.Pow.{pow-mono}
@@ -21,7 +19,7 @@ use Rattle.meaning.specs.Name.{lastName, isName}
 use Rattle.meaning.specs.Limits.{depthLimit, nodeLimit}
 use Rattle.meaning.specs.Limits.Laws.{depth-is, node-limit-is}
 use Rattle.meaning.specs.Query.{Query, Steps}
-use Rattle.meaning.specs.Document.{Node, Row, Doc, done, within, blank, opened, closed, count, depth, finished}
+use Rattle.meaning.specs.Document.{Node, Row, Doc, done, within, blank, opened, closed, count, depth}
 use Rattle.meaning.specs.Selection.{Ready, start}
 use Rattle.meaning.specs.Stream.{Event, opens, closes, fits, act, run, document, always, Stream}
 use Rattle.sets.specs.Set.{without}

@@ -48,7 +48,7 @@ pub record Done : Type 0 where
 abbrev pub refused : ℕ → Session → List ℕ → List ℕ → List ℕ → Done
 refused n s E N out = record { answer = Refused n; session = s; elements = E; nodes = N; out = out }
 
--- "1: output buffer under 4,100 bytes", "15: lent room too small"
+-- "1: output buffer under 4,100 bytes", "lent room under 16,384 bytes for the open elements or under 32,768 bytes for the waiting nodes"
 unfoldable pub refuseLent : ℕ → ℕ → ℕ → ℕ
 refuseLent out elements nodes =
     pick (ltb out outputNeeded) shortOutput (pick (ltb elements elementsNeeded) shortRoom (pick (ltb nodes nodesNeeded) shortRoom 0))

@@ -22,8 +22,6 @@ use Rattle.meaning.specs.Limits.{elementsNeeded, nodesNeeded}
 use Rattle.meaning.specs.Refusals.{shortRoom, unfinished, badLength, badStep}
 use Rattle.meaning.specs.Answer.{tooSmall}
 use Rattle.meaning.specs.Answer.Laws.{not-small}
-use Rattle.meaning.specs.Query.{Query}
-use Rattle.meaning.specs.Document.{count, finished}
 use Rattle.meaning.specs.Stream.{Event, document}
 use Rattle.meaning.specs.Standing.{listed}
 use Rattle.meaning.specs.Offering.{offeringAll}
@@ -37,8 +35,8 @@ use Rattle.session.specs.declared.Start.the-variants as started
 use Rattle.session.specs.declared.Begun.{Begun}
 use Rattle.session.specs.Begin.{said, answerOf, BeginGives}
 use Rattle.session.specs.Event.{finish}
-use Rattle.session.specs.Run.{Housed, housed}
-use Rattle.promise.specs.Promise.{Of, begin-answer, ended-is, opened-is, handed-is}
+use Rattle.session.specs.Run.{Housed}
+use Rattle.promise.specs.Promise.{Of, begin-answer, ended-is, handed-is}
 use Rattle.lines.specs.Put.{Put}
 use Rattle.lines.specs.Put.Laws.{put-taken}
 use Rattle.lines.specs.Text.{linesOf, endLine, refusedAtLine, refusedLine}

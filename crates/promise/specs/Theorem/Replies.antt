@@ -14,7 +14,7 @@ use Prim.Native.Nat.{ℕ, _+_, _*_, _≤_}
 use native.Mathlib.Omega.{arith}
 use mathlib.Core.Logic.{_↔_}
 use mathlib.Core.Path.{_≡_, refl, sym, ap, ap₂, _∙_, subst}
-use mathlib.Core.Bool.{Bool, true, false}
+use mathlib.Core.Bool.{false}
 use mathlib.Core.List.{List, [], _∷_, _++_, map, flatMap, List·Memᴰ}
 use lib.Dec.{eqb}
 use lib.ListN.{length, take, drop, take-append-drop, length-append, length-drop}
@@ -63,7 +63,7 @@ use Rattle.session.specs.Run.{Housed, housed}
 use Rattle.session.specs.Told.{told, ended}
 use Rattle.promise.specs.Promise.{SameUsed, Of, leftBy, room-long, begin-answer, begin-session, begin-of, ruled}
 use Rattle.promise.specs.Promise.{event-answered, event-of, event-written, finish-given, waiting-held, opened-is, handed-is, held-is}
-use Rattle.promise.specs.Theorem.{Use, offer, ask, Reply, stepped, finish, Played, unused, by-event, by-finish, Reached}
+use Rattle.promise.specs.Theorem.{Use, Reply, stepped, finish, Played, unused, by-event, by-finish, Reached}
 use Rattle.promise.specs.Theorem.{callOf, answerOf, recordsBy, recordsIn, streamOf, nodesOf, Begins, Promised, Same}
 
 -- a refused event writes nothing

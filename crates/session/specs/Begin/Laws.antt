@@ -6,13 +6,12 @@
 --   begin-one                                     two results that the promise of `begin` allows are equal
 --
 -- Assumes nothing.
-use Prim.Native.Nat.{ℕ, _≤_, _<_}
+use Prim.Native.Nat.{ℕ}
 use native.Mathlib.Omega.{arith}
 use mathlib.Core.Path.{_≡_, refl, sym, ap, ap₂, _∙_}
 use mathlib.Core.Bool.{true, false}
 use mathlib.Core.List.{List, []}
 use lib.ListN.{length}
-use borrow.Author.Tests.{lt-ltb, le-ltb}
 use Rattle.choice.specs.Pick.{pick-true, pick-false}
 use Rattle.meaning.specs.Answer.{tooSmall}
 use Rattle.plan.specs.declared.Plan.{Plan}
@@ -21,8 +20,6 @@ use Rattle.query.specs.declared.QueryAnswer.{QueryAnswer}
 use Rattle.query.specs.declared.QueryAnswer.the-variants.{Admitted, BadLength, BadStep}
 use Rattle.query.specs.Answer.{answerTo}
 use Rattle.query.specs.Answer as query
-use Rattle.element.specs.Element.Laws as element
-use Rattle.node.specs.Node.Laws as node
 use Rattle.session.specs.declared.Begun as given
 use Rattle.session.specs.declared.Session.{Session}
 use Rattle.session.specs.declared.Start as start

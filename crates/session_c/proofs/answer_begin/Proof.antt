@@ -1,5 +1,5 @@
 -- Case by case. Assumes nothing.
-use mathlib.Core.Path.{_≡_, sym, ap, _∙_}
+use mathlib.Core.Path.{sym, ap, _∙_}
 use Rattle.query_c.specs.Packed.{packed}
 use Rattle.session.specs.declared.Start.{Start}
 use Rattle.session.specs.Begin.{said}

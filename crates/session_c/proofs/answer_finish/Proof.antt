@@ -1,5 +1,5 @@
 -- Case by case. Assumes nothing.
-use mathlib.Core.Path.{_≡_, sym, ap, _∙_}
+use mathlib.Core.Path.{sym, ap, _∙_}
 use Rattle.session.specs.declared.Finish.{Finish}
 use Rattle.session_c.specs.Exported.{endNumber, countedBy}
 use borrow.Author.Needs.{needs}

@@ -1,6 +1,5 @@
 -- The length, and then what the session gives (Exported.Laws). Assumes nothing.
-use native.Mathlib.Omega.{arith}
-use mathlib.Core.Path.{_≡_, sym, ap, _∙_}
+use mathlib.Core.Path.{sym, _∙_}
 use Rattle.session_c.specs.Laid.Laws.{room-is}
 use Rattle.session_c.specs.Exported.Laws.{begins-none, begins-parts}
 use borrow.Author.Needs.{needs}

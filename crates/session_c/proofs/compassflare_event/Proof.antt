@@ -1,5 +1,5 @@
 -- The length, and then what the session gives (Exported.Laws). Assumes nothing.
-use mathlib.Core.Path.{_≡_, sym, _∙_}
+use mathlib.Core.Path.{sym, _∙_}
 use borrow.Author.Needs.{needs}
 use Rattle.session_c.specs.Laid.Laws.{room-is}
 use Rattle.session_c.specs.Exported.Laws.{takes-none, takes-parts}

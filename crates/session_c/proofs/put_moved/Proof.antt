@@ -1,5 +1,5 @@
 -- The two cases. Assumes nothing.
-use mathlib.Core.Path.{_≡_, sym, ap, _∙_}
+use mathlib.Core.Path.{sym, _∙_}
 use borrow.Author.Tests.{eq-eqb, ne-eqb}
 use Rattle.choice.specs.Pick.{pick-true, pick-false}
 use Rattle.session_c.specs.Exported.{movedBy}

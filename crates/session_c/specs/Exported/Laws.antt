@@ -12,7 +12,7 @@ use lib.ListN.{length}
 use borrow.Author.Tests.{eq-eqb, ne-eqb}
 use Rattle.choice.specs.Pick.{pick-true, pick-false}
 use Rattle.query_c.specs.Packed.{packed}
-use Rattle.feed.specs.Fed.{Fed, fed}
+use Rattle.feed.specs.Fed.{fed}
 use Rattle.session.specs.declared.Session.{Session}
 use Rattle.session.specs.declared.Begun as given
 use Rattle.session.specs.declared.Step.{Step}
@@ -22,7 +22,7 @@ use Rattle.session.specs.Begin.{Begun, said, BeginGives}
 use Rattle.session.specs.Event.{event, EventGives, FinishGives}
 use Rattle.session.specs.Event as session
 use Rattle.session.specs.Event.Laws.{event-is, finish-is}
-use Rattle.session.specs.Run.{Housed, housed, eventAt, RunGives}
+use Rattle.session.specs.Run.{housed, eventAt, RunGives}
 use Rattle.session_c.specs.Laid.{sessionRoom, sessionIn, countsRoom, countBytes}
 use Rattle.session_c.specs.Exported.{Began, startedBy, beganWith, began, ExportBegins}
 use Rattle.session_c.specs.Exported.{Took, numberOf, leftBy, tookWith, took, ExportTakes}
