@@ -1,7 +1,9 @@
 // Offers each event of `events.rec` to a session by itself, also after a refusal, and writes a line for each: how it was answered, how many nodes
-// are held, and which were handed out.
+// are held, and which were handed out. `lent.rec`, if it is there, says how much is lent to each call.
+ghost use Prim.Native.Nat.{_≤_};
 ghost use Rattle.io.specs.Counts.{Counts};
 use session::Answer;
+use session::Begun;
 use session::Finish;
 use session::Session;
 use session::Start;
@@ -79,6 +81,41 @@ fn say_finish(finish: Finish) {
     say(b"\n");
 }
 
+// How many bytes are lent to a call.
+struct Lending {
+    out: usize,
+    elements: usize,
+    nodes: usize,
+}
+
+// A record of 12 bytes for each call: three numbers, high byte first. Enough is lent to a call that has none.
+fn next_lending(fd: i32) -> Lending {
+    let mut record = [0u8; 12];
+    let n = io::read_full(fd, &mut record);
+    if n < 12 {
+        return Lending {
+            out: limits::OUTPUT,
+            elements: limits::ELEMENTS_ROOM,
+            nodes: limits::NODES_ROOM,
+        };
+    }
+    Lending {
+        out: lines::node_at(&record, 0) as usize,
+        elements: lines::node_at(&record, 1) as usize,
+        nodes: lines::node_at(&record, 2) as usize,
+    }
+}
+
+// More than there is, is all that there is.
+fn at_most(wanted: usize, all: usize) -> usize
+    ensures { λ r. ⌜ r ≤ all ⌝ }
+{
+    if wanted < all {
+        return wanted;
+    }
+    all
+}
+
 // A session, and whether there was another event for it.
 struct Offered {
     session: Session,
@@ -88,6 +125,7 @@ struct Offered {
 // "Leftover bytes under 8 are a bad record": they are offered as they are.
 fn offer_next(
     fd: i32,
+    lent: i32,
     number: u64,
     session: Session,
     elements: &mut [u8],
@@ -102,7 +140,16 @@ fn offer_next(
             going: false,
         };
     }
-    let step = session.event(&record[..n], elements, nodes, out);
+    let lending = next_lending(lent);
+    let some_elements = at_most(lending.elements, elements.len());
+    let some_nodes = at_most(lending.nodes, nodes.len());
+    let some_out = at_most(lending.out, out.len());
+    let step = session.event(
+        &record[..n],
+        &mut elements[..some_elements],
+        &mut nodes[..some_nodes],
+        &mut out[..some_out],
+    );
     say_step(number, step, &*out);
     let next = step.session;
     Offered {
@@ -114,6 +161,7 @@ fn offer_next(
 // Nothing says that a file ends. So the loop counts the events up to a number that no file has.
 fn offer_all(
     fd: i32,
+    lent: i32,
     session: Session,
     elements: &mut [u8],
     nodes: &mut [u8],
@@ -126,7 +174,7 @@ fn offer_all(
     let mut number: u64 = 1;
     while offered.going && number < u64::MAX {
         let last = offered.session;
-        offered = offer_next(fd, number, last, elements, nodes, out);
+        offered = offer_next(fd, lent, number, last, elements, nodes, out);
         number += 1;
     }
     offered.session
@@ -152,19 +200,30 @@ fn say_query(answer: Start) -> bool {
     }
 }
 
+// A session for the query, by what is lent at the start.
+fn begin(query: &[u8], lent: i32, elements: &[u8], nodes: &[u8]) -> Begun {
+    let lending = next_lending(lent);
+    let some_elements = at_most(lending.elements, elements.len());
+    let some_nodes = at_most(lending.nodes, nodes.len());
+    session::begin(query, &elements[..some_elements], &nodes[..some_nodes])
+}
+
 fn main() {
     let mut query = [0u8; 264];
-    let mut elements = [0u8; 16384];
-    let mut nodes = [0u8; 32768];
-    let mut out = [0u8; 4100];
+    // A record more than is needed, so that more can be lent.
+    let mut elements = [0u8; 16448];
+    let mut nodes = [0u8; 32800];
+    let mut out = [0u8; 4104];
     let n = read_query(&mut query);
-    let begun = session::begin(&query[..n], &elements, &nodes);
+    let lent = os::open_read(b"lent.rec");
+    let begun = begin(&query[..n], lent, &elements, &nodes);
     let answer = begun.answer;
     if say_query(answer) {
         let fd = os::open_read(b"events.rec");
         let session = begun.session;
-        let last = offer_all(fd, session, &mut elements, &mut nodes, &mut out);
+        let last = offer_all(fd, lent, session, &mut elements, &mut nodes, &mut out);
         libc::close(fd);
         say_finish(last.finish());
     }
+    libc::close(lent);
 }

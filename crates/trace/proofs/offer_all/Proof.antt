@@ -9,11 +9,11 @@ use Rattle.trace.proofs.offer_all.Statement.{statement}
 use Rattle.trace.proofs.offer_all.Tie as tie
 
 abbrev Inv-loop : tie.InvT-loop
-Inv-loop fd elements₀ nodes₀ out₀ offered₀ number₀ elements nodes out offered number =
+Inv-loop fd lent elements₀ nodes₀ out₀ offered₀ number₀ elements nodes out offered number =
     (number ≤ 18446744073709551615) × ((length elements ≡ length elements₀) × ((length nodes ≡ length nodes₀) × (length out ≡ length out₀)))
 
 abbrev μ-loop : tie.MeasureT-loop
-μ-loop fd elements₀ nodes₀ out₀ offered₀ number₀ elements nodes out offered number = 18446744073709551615 - number
+μ-loop fd lent elements₀ nodes₀ out₀ offered₀ number₀ elements nodes out offered number = 18446744073709551615 - number
 
 loop-holds : tie.Need-loop-holds Inv-loop μ-loop
 loop-holds c = search needs
