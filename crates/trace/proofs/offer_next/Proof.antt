@@ -38,7 +38,8 @@ slice-relend-prefix-event c = search needs
 slice-aggregate-event-2 : tie.Need-slice-aggregate-event-2
 slice-aggregate-event-2 c =
     sym
-    (length-take-le (c .before .before .before .before .at-most .result) (c .before .before .before .before .before .before .before .before .before .before .before .before .before .args .elements .now)
+    (length-take-le (c .before .before .before .before .at-most .result)
+    (c .before .before .before .before .before .before .before .before .before .before .before .before .before .args .elements .now)
     (c .before .before .before .before .at-most .ensures))
 
 slice-relend-prefix-event-2 : tie.Need-slice-relend-prefix-event-2
@@ -47,7 +48,8 @@ slice-relend-prefix-event-2 c = search needs
 slice-aggregate-event-3 : tie.Need-slice-aggregate-event-3
 slice-aggregate-event-3 c =
     sym
-    (length-take-le (c .before .before .before .before .at-most2 .result) (c .before .before .before .before .before .before .before .before .before .before .before .before .before .before .args .nodes .now)
+    (length-take-le (c .before .before .before .before .at-most2 .result)
+    (c .before .before .before .before .before .before .before .before .before .before .before .before .before .before .args .nodes .now)
     (c .before .before .before .before .at-most2 .ensures))
 
 slice-relend-prefix-event-3 : tie.Need-slice-relend-prefix-event-3
@@ -56,7 +58,8 @@ slice-relend-prefix-event-3 c = search needs
 slice-aggregate-event-4 : tie.Need-slice-aggregate-event-4
 slice-aggregate-event-4 c =
     sym
-    (length-take-le (c .before .before .before .before .at-most3 .result) (c .before .before .before .before .before .before .before .before .before .before .before .before .before .before .before .args .out .now)
+    (length-take-le (c .before .before .before .before .at-most3 .result)
+    (c .before .before .before .before .before .before .before .before .before .before .before .before .before .before .before .args .out .now)
     (c .before .before .before .before .at-most3 .ensures))
 
 event-requires : tie.Need-event-requires
