@@ -15,10 +15,18 @@ at-most-requires-2 : tie.Need-at-most-requires-2
 at-most-requires-2 c κs = search needs
 
 slice-aggregate-begin : tie.Need-slice-aggregate-begin
-slice-aggregate-begin c = sym (length-take-le (c .before .before .at-most .result) (c .before .before .before .before .before .before .before .args .elements .now) (c .before .before .at-most .ensures))
+slice-aggregate-begin c =
+    sym
+    (length-take-le (c .before .before .at-most .result)
+    (c .before .before .before .before .before .before .before .args .elements .now)
+    (c .before .before .at-most .ensures))
 
 slice-aggregate-begin-2 : tie.Need-slice-aggregate-begin-2
-slice-aggregate-begin-2 c = sym (length-take-le (c .before .before .at-most2 .result) (c .before .before .before .before .before .before .before .before .args .nodes .now) (c .before .before .at-most2 .ensures))
+slice-aggregate-begin-2 c =
+    sym
+    (length-take-le (c .before .before .at-most2 .result)
+    (c .before .before .before .before .before .before .before .before .args .nodes .now)
+    (c .before .before .at-most2 .ensures))
 
 begin-requires : tie.Need-begin-requires
 begin-requires c κs = search needs
