@@ -2,7 +2,7 @@
 --
 --   SameUsed l E N             the room E and N has the records in use as the room of l has them; the rest is anything
 --   Of b es l                  l is a session and its room after the query bytes b were admitted and the events es accepted by some calls
---   leftBy l E N d             the session and its room after an event that was lent E and N and came to d: room that is too small is not touched
+--   leftBy l E N s E′ N′       the session s and its room after an event that was lent E and N and left E′ and N′: room that is too small is not touched
 --   Given o bytes .. x d       d is what is owed where x is the first refusal that applies
 --   begin-of                   the session that begin gives beside an admitted query is one after no events, with any room
 --   event-given, event-of      an event gives the meaning's answer, and leads to a session after the events then accepted

@@ -13,7 +13,7 @@
 --   Offered, Answered       how the records of a block are offered and answered
 --   Block b us rs l .. r .. what is promised of a block: its result r and all that was lent are what single offers come to
 --   Same                    what is promised of every event on every session and room, reached or not, scribbled on or not
---   Library                 the theorem; it is proved in Theorem.Proof, by Theorem.Replies and Theorem.Blocks
+--   Library                 the theorem; it is proved in Theorem.Proof, by Theorem.Short, Theorem.Replies and Theorem.Blocks
 --
 -- The other words are document 01's: ListedBy, HeldBy, SelectedByNone, Selected (crate meaning, Explicit: with explicit nodes and all continuations), answers
 -- and accepted (meaning, Answer), Owed (crate query, Answer), Rising (each number once, in document order). BeginGives, EventGives, FinishGives and RunGives
@@ -22,6 +22,7 @@
 -- Explicit.Demands. The records are those of crate element and crate node; records in use are the first ones, as many as elements are open and nodes held.
 -- Assumes that a query's bytes are bytes. NOT promised: list, counts and refusals of a session that no calls reach, or of one whose records in use were
 -- changed between calls.
+pub mod Short
 pub mod Replies
 pub mod Blocks
 pub mod Proof
@@ -33,7 +34,7 @@ use mathlib.Core.List.{List, [], _∷_, _++_, map, flatMap, List·Memᴰ}
 use lib.Dec.{T}
 use lib.ListN.{length, take, drop}
 use Rattle.meaning.specs.Limits.{outputNeeded, elementsNeeded, nodesNeeded}
-use Rattle.meaning.specs.Refusals.{shortRoom}
+use Rattle.meaning.specs.Refusals.{shortOutput, shortRoom}
 use Rattle.meaning.specs.Document.{count, finished}
 use Rattle.meaning.specs.Selection.{sure-reading}
 use Rattle.meaning.specs.Explicit.{Selected}
@@ -157,6 +158,9 @@ pub record Promised (b : List ℕ) (us : List Use) (rs : List Reply) (l : Housed
 pub record Same (s : Session) (bytes E N out : List ℕ) (r : Step) (E′ N′ out′ : List ℕ) : Type 0 where
   pub refused-same : (n : ℕ) → r .answer ≡ Refused n → (r .session ≡ s) × ((E′ ≡ E) × ((N′ ≡ N) × (out′ ≡ out)))
   pub past-same : (drop elementsNeeded E′ ≡ drop elementsNeeded E) × (drop nodesNeeded N′ ≡ drop nodesNeeded N)
+  -- 1 exactly when the buffer is too short, 15 exactly when a room is too small and 1 does not apply
+  pub short-exactly : (r .answer ≡ Refused shortOutput) ↔ (length out < outputNeeded)
+  pub small-exactly : (r .answer ≡ Refused shortRoom) ↔ ((outputNeeded ≤ length out) × (tooSmall (length E) (length N) ≡ true))
 
 -- the whole records at the start of es are offered one after the other, the first with the room E and N and the buffer out, each next with the room that the
 -- one before left and the part of the buffer behind the list records so far, and none with less of it than an event can need; A and B are what is left
@@ -175,10 +179,11 @@ pub data Answered : (taken refusal : ℕ) → List Answer → Type 0 where
 
 -- a block on a session that calls reach, lent E and N and given back A and B: its session is one that single offers lead to, up to the first refusal, the last
 -- whole record, or less of the buffer than an event can need; and the room that it gives back is one to go on with
-pub record Block (b : List ℕ) (us : List Use) (rs : List Reply) (es E N out : List ℕ) (r : Ran) (A B out′ : List ℕ) : Type 0 where
+pub record Block (b : List ℕ) (us : List Use) (rs : List Reply) (l : Housed) (es E N out : List ℕ) (r : Ran) (A B out′ : List ℕ) : Type 0 where
   pub offers : List Use
   pub replies : List Reply
   pub left : Housed
+  pub played : Played l offers replies left
   pub same-session : left .session ≡ r .session
   pub reached : Reached b (us ++ offers) (rs ++ replies) left
   pub goes-on : tooSmall (length E) (length N) ≡ false → SameUsed left A B
@@ -194,7 +199,7 @@ pub record Library : Type 0 where
   pub blocks :
       {b : List ℕ} {us : List Use} {rs : List Reply} {l : Housed} → Reached b us rs l → (es E N out : List ℕ) →
       (tooSmall (length E) (length N) ≡ false → SameUsed l E N) → (r : Ran) (A B out′ : List ℕ) → RunGives (l .session) es E N out r A B out′ →
-      Block b us rs es E N out r A B out′
+      Block b us rs l es E N out r A B out′
   pub same :
       (s : Session) (bytes E N out : List ℕ) (r : Step) (E′ N′ out′ : List ℕ) → EventGives s bytes E N out r E′ N′ out′ →
       Same s bytes E N out r E′ N′ out′
@@ -202,11 +207,17 @@ pub record Library : Type 0 where
   pub first-part :
       {b : List ℕ} (us us′ : List Use) {rs : List Reply} {l : Housed} → Reached b (us ++ us′) rs l →
       (rs₁ : List Reply) × (rs₂ : List Reply) × (k : Housed) × Reached b us rs₁ k × Played k us′ rs₂ l × (rs ≡ rs₁ ++ rs₂)
-  -- every call has a result, whatever it is given, and no other; so every sequence of uses has replies, and no others
+  -- every call has a result, whatever it is given, so that any sequence of uses goes on; and it has one list of replies
   pub some-begin : (b E N : List ℕ) → (r : Begun) × BeginGives b E N r
   pub some-event :
       (s : Session) (bytes E N out : List ℕ) → (r : Step) × (E′ : List ℕ) × (N′ : List ℕ) × (out′ : List ℕ) × EventGives s bytes E N out r E′ N′ out′
   pub some-finish : (s : Session) → (f : Finish) × FinishGives s f
+  pub some-run :
+      (s : Session) (es E N out : List ℕ) → (r : Ran) × (A : List ℕ) × (B : List ℕ) × (out′ : List ℕ) × RunGives s es E N out r A B out′
+  pub some-use :
+      {b : List ℕ} {us : List Use} {rs : List Reply} {l : Housed} → Reached b us rs l → (bytes E N out : List ℕ) →
+      (tooSmall (length E) (length N) ≡ false → SameUsed l E N) →
+      (r : Reply) × (k : Housed) × Reached b (us ++ (offer bytes E N out ∷ [])) (rs ++ (r ∷ [])) k
   pub one :
       (b E N : List ℕ) (r r′ : Begun) {us : List Use} {rs rs′ : List Reply} {l l′ : Housed} → BeginGives b E N r → BeginGives b E N r′ →
       Played (housed (r .session) E N) us rs l → Played (housed (r′ .session) E N) us rs′ l′ → (r ≡ r′) × (rs ≡ rs′) × (l ≡ l′)

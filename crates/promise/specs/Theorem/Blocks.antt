@@ -3,7 +3,7 @@
 --   Singly l n es E N out f     f is what single offers of the first n records of es come to, on the session of l lent E and N, and with the buffer out
 --   fed-singly              what session promises of a block is that, on a session that calls reach
 --   played-append           one play after another;  first-part: a first part of a play
---   block                   THE BLOCK is as promised
+--   block                   THE BLOCK is as promised;  run-some: it has a result;  use-some: a sequence of uses goes on
 --
 -- Assumes nothing.
 use Prim.Native.Nat.{ℕ, zero, suc, _+_, _-_, _*_, _/_, _≤_, _<_}
@@ -20,7 +20,7 @@ use borrow.Author.Tests.{eqb-false, ne-eqb, ltb-true, ltb-false, le-ltb}
 use Rattle.choice.specs.Pick.{pick, pick-true, pick-false, pick-known, pick-either}
 use Rattle.choice.specs.Count.{positive}
 use Rattle.meaning.specs.Limits.{outputNeeded, elementsNeeded, nodesNeeded}
-use Rattle.meaning.specs.Refusals.{shortRoom}
+use Rattle.meaning.specs.Refusals.{shortOutput, shortRoom}
 use Rattle.meaning.specs.Stream.{Event}
 use Rattle.meaning.specs.Answer as meaning
 use Rattle.meaning.specs.Answer.{Call, tooSmall, answer, handedBy, handedOut}
@@ -93,8 +93,8 @@ Numbered d = (x : ℕ) → d .answer ≡ Refused x → 0 < x
 pub refused-some : (s : Session) (bytes E N out : List ℕ) (x : ℕ) → event s bytes E N out .answer ≡ Refused x → 0 < x
 unfolding event within settled Numbered
 refused-some s bytes E N out =
-    pick-either Numbered _ _ _ (λ x e. let z : x ≡ 1 = cc in omega arith)
-    (pick-either Numbered _ _ _ (λ x e. let z : x ≡ 15 = cc in omega arith)
+    pick-either Numbered _ _ _ (λ x e. let z : x ≡ shortOutput = cc in omega arith)
+    (pick-either Numbered _ _ _ (λ x e. let z : x ≡ shortRoom = cc in omega arith)
     (pick-known (λ (d : Done). Numbered (beside E N d)) (eqb (came .refusal) 0) _ _ (λ t x e. let z : _≡_ {A = ℕ} 0 1 = cc in absurd (omega arith))
     (λ f x e. let z : x ≡ came .refusal = cc in subst (λ k. 0 < k) (sym z) (positive (came .refusal) (eqb-false (came .refusal) 0 f)))))
   where
@@ -285,10 +285,29 @@ pub first-part :
     (rs₁ : List Reply) × (rs₂ : List Reply) × (k : Housed) × Reached b us rs₁ k × Played k us′ rs₂ l × (rs ≡ rs₁ ++ rs₂)
 first-part us us′ x = let p = played-split us us′ (x .played) in (p .0, p .1, p .2, reached-by x (p .3), p .4, p .5)
 
+pub run-some :
+    (s : Session) (es E N out : List ℕ) → (r : Ran) × (A : List ℕ) × (B : List ℕ) × (out′ : List ℕ) × RunGives s es E N out r A B out′
+run-some s es E N out =
+    let f = fed eventAt (length es / 8) (housed s E N) es out in
+    (record { session = f .seat .session; taken = f .taken; listed = f .listed; refusal = f .refusal }, f .seat .elements, f .seat .nodes, f .out, refl)
+
+-- one use more
+pub use-some :
+    {b : List ℕ} {us : List Use} {rs : List Reply} {l : Housed} → Reached b us rs l → (bytes E N out : List ℕ) →
+    (tooSmall (length E) (length N) ≡ false → SameUsed l E N) →
+    (r : Reply) × (k : Housed) × Reached b (us ++ (offer bytes E N out ∷ [])) (rs ++ (r ∷ [])) k
+use-some {l = l} x bytes E N out used =
+    let d = event (l .session) bytes E N out in
+    let r : Step = record { answer = d .answer; session = d .session } in (
+      stepped r (d .elements) (d .nodes) (d .out),
+      leftBy l E N (d .session) (d .elements) (d .nodes),
+      reached-by x (played-append (x .played) (by-event {r = r} used refl unused)),
+    )
+
 pub block :
     {b : List ℕ} {us : List Use} {rs : List Reply} {l : Housed} → Reached b us rs l → (es E N out : List ℕ) →
     (tooSmall (length E) (length N) ≡ false → SameUsed l E N) → (r : Ran) (A B out′ : List ℕ) → RunGives (l .session) es E N out r A B out′ →
-    theorem.Block b us rs es E N out r A B out′
+    theorem.Block b us rs l es E N out r A B out′
 block {b} {us} {rs} {l} x es E N out used r A B out′ g =
     let p : Singly l (length es / 8) es E N out (ran r A B out′) =
     subst (Singly l (length es / 8) es E N out) (sym g) (fed-singly (length es / 8) (reached-kept x .of) es E N out used (omega arith)) in
@@ -296,6 +315,7 @@ block {b} {us} {rs} {l} x es E N out used r A B out′ g =
       offers = p .offers;
       replies = p .replies;
       left = p .left;
+      played = p .played;
       same-session = p .same-session;
       reached = reached-by x (played-append (x .played) (p .played));
       goes-on = p .goes-on;

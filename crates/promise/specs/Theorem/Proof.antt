@@ -5,7 +5,7 @@
 -- Assumes nothing.
 use Rattle.promise.specs.Theorem.{Library}
 use Rattle.promise.specs.Theorem.Replies.{begins, promised, same, begin-some, event-some, finish-some, uses-one}
-use Rattle.promise.specs.Theorem.Blocks.{first-part, block}
+use Rattle.promise.specs.Theorem.Blocks.{first-part, run-some, use-some, block}
 
 pub library : Library
 library =
@@ -18,5 +18,7 @@ library =
       some-begin = begin-some;
       some-event = event-some;
       some-finish = finish-some;
+      some-run = run-some;
+      some-use = λ x. use-some x;
       one = λ b E N r r′ g g′ p p′. uses-one b E N r r′ g g′ p p′;
     }

@@ -10,19 +10,19 @@
 --   begin-some, event-some, finish-some     every call has a result;  uses-one: every sequence of uses has only one list of replies
 --
 -- Assumes nothing.
-use Prim.Native.Nat.{ℕ, _+_, _*_, _≤_}
+use Prim.Native.Nat.{ℕ, _+_, _*_, _≤_, _<_}
 use native.Mathlib.Omega.{arith}
 use mathlib.Core.Logic.{_↔_}
 use mathlib.Core.Path.{_≡_, refl, sym, ap, ap₂, _∙_, subst}
-use mathlib.Core.Bool.{false}
+use mathlib.Core.Bool.{true, false}
 use mathlib.Core.List.{List, [], _∷_, _++_, map, flatMap, List·Memᴰ}
 use lib.Dec.{eqb}
 use lib.ListN.{length, take, drop, take-append-drop, length-append, length-drop}
 use lib.Seq.{take-at, drop-at, length-take-le}
 use Rattle.choice.specs.Pick.{pick-true, pick-false, pick-known, pick-either}
 use Rattle.choice.specs.Count.{boolByte-le}
-use Rattle.meaning.specs.Limits.{elementsNeeded, nodesNeeded}
-use Rattle.meaning.specs.Refusals.{shortRoom}
+use Rattle.meaning.specs.Limits.{elementsNeeded, nodesNeeded, outputNeeded}
+use Rattle.meaning.specs.Refusals.{shortOutput, shortRoom}
 use Rattle.meaning.specs.Query.{Query}
 use Rattle.meaning.specs.Selection.{sure-reading}
 use Rattle.meaning.specs.Explicit.{Selected}
@@ -63,6 +63,7 @@ use Rattle.session.specs.Run.{Housed, housed}
 use Rattle.session.specs.Told.{told, ended}
 use Rattle.promise.specs.Promise.{SameUsed, Of, leftBy, room-long, begin-answer, begin-session, begin-of, ruled}
 use Rattle.promise.specs.Promise.{event-answered, event-of, event-written, finish-given, waiting-held, opened-is, handed-is, held-is}
+use Rattle.promise.specs.Theorem.Short.{event-short, event-small}
 use Rattle.promise.specs.Theorem.{Use, Reply, stepped, finish, Played, unused, by-event, by-finish, Reached}
 use Rattle.promise.specs.Theorem.{callOf, answerOf, recordsBy, recordsIn, streamOf, nodesOf, Begins, Promised, Same}
 
@@ -259,6 +260,10 @@ same s bytes E N out r E′ N′ out′ g =
     record {
       refused-same = subst (Back s bytes E N out) (sym is) (back s bytes E N out);
       past-same = subst (Past s bytes E N out) (sym is) (past s bytes E N out);
+      short-exactly = subst (λ (d : Done). (d .answer ≡ Refused shortOutput) ↔ (length out < outputNeeded)) (sym is) (event-short s bytes E N out);
+      small-exactly =
+          subst (λ (d : Done). (d .answer ≡ Refused shortRoom) ↔ ((outputNeeded ≤ length out) × (tooSmall (length E) (length N) ≡ true))) (sym is)
+          (event-small s bytes E N out);
     }
 
 pub event-long :

@@ -5,21 +5,23 @@
 --   of-parts             a session by what it keeps of its query and its numbers one by one
 --   rest-room            how long the rest of the bytes is, after what is kept of the query
 --   read-parts           what is kept, copied, and the numbers in the rest are the session in the bytes
+--   session-read         a session laid in bytes is read again as it was
 --   put-parts            what is kept, copied over the bytes, and then the numbers in the place of the rest are the bytes of the session
 --   counts-put           two counts written by halves
 --
 -- Assumes nothing.
-use Prim.Native.Nat.{ℕ, _+_, _-_, _/_, _%_, _≤_}
+use Prim.Native.Nat.{ℕ, zero, suc, _+_, _-_, _/_, _%_, _≤_, _<_}
 use native.Mathlib.Omega.{arith}
 use mathlib.Core.Path.{_≡_, refl, sym, ap, ap₂, _∙_}
-use mathlib.Core.Bool.{not}
+use mathlib.Core.Bool.{Bool, not}
 use mathlib.Core.List.{List, [], _∷_, _++_, append-nil}
 use mir.Val.{boolByte}
 use lib.Dec.{eqb}
 use lib.ListN.{length, getD, set, take, drop, length-drop, drop-of-length-le}
-use lib.Seq.{length-take-le, take-all, take-length, take-at}
+use lib.Seq.{length-take-le, take-all, take-length, take-at, drop-at}
+use Rattle.choice.specs.Count.{boolByte-le, boolByte-read}
 use Rattle.words.specs.Words.{words, bytesOf, Bytes}
-use Rattle.words.specs.Words.Laws.{words-length, bytes-words}
+use Rattle.words.specs.Words.Laws.{words-length, bytes-words, words-bytes, bytes-length}
 use Rattle.words.specs.Rows.{rows, is-rows}
 use Rattle.words.specs.Records.{recordsIn}
 use Rattle.numbers.specs.Numbers.{Numbers, numbersRoom, recordIn, numbersIn, numbersOf}
@@ -85,6 +87,37 @@ module _ (S : List ℕ) (long : length S ≡ sessionRoom) where
       s ≡ sessionOf kept (numbersIn (take (length S - 288) (drop 288 S))) → length k ≡ 288 → n ≡ 288 → s ≡ sessionIn S
   unfolding sessionIn
   read-parts k kept n s ek es lk ln = es ∙ ap₂ (λ (x y : List ℕ). sessionOf x (numbersIn y)) (kept-all k kept n lk ln ek) rest-all
+
+-- a session laid in bytes is read again as it was: its numbers are of 4 bytes, as the code's are
+module _ (s : Session) (kept-long : length (s .kept) ≡ planRoom) (depth : s .depth < 4294967296) (held : s .held < 4294967296)
+    (opened : s .opened < 4294967296) (handed : s .handed < 4294967296) where
+  abbrev laid-numbers : List ℕ
+  laid-numbers = s .depth ∷ s .held ∷ s .opened ∷ s .handed ∷ boolByte (s .ended) ∷ []
+
+  small : (i : ℕ) → getD laid-numbers i 0 < 4294967296
+  small zero = depth
+  small (suc zero) = held
+  small (suc (suc zero)) = opened
+  small (suc (suc (suc zero))) = handed
+  small (suc (suc (suc (suc zero)))) = omega (arith, boolByte-le (s .ended))
+  small (suc (suc (suc (suc (suc i))))) = omega arith
+
+  numbers-read : five (numbersIn (bytesOf laid-numbers)) ≡ laid-numbers
+  numbers-read =
+      sym (five-words (bytesOf laid-numbers) (bytes-length laid-numbers ∙ omega (arith, numbers.room-is))) ∙ words-bytes laid-numbers small
+
+  pub session-read : sessionIn (sessionBytes s) ≡ s
+  unfolding sessionIn sessionBytes
+  session-read =
+      let n : Numbers = numbersIn (bytesOf laid-numbers) in
+      let at : (i : ℕ) → getD (five n) i 0 ≡ getD laid-numbers i 0 = λ (i : ℕ). ap (λ (l : List ℕ). getD l i 0) numbers-read in
+      ap₂ (λ (x y : List ℕ). sessionOf x (numbersIn y)) (take-at (s .kept) (bytesOf laid-numbers) planRoom kept-long)
+      (drop-at (s .kept) (bytesOf laid-numbers) planRoom kept-long)
+      ∙ sym
+      (of-parts (s .kept) n (s .depth) (s .held) (s .opened) (s .handed) (boolByte (s .ended)) (sym (at 0)) (sym (at 1)) (sym (at 2)) (sym (at 3))
+      (sym (at 4)))
+      ∙ ap (λ (b : Bool). record { kept = s .kept; depth = s .depth; held = s .held; opened = s .opened; handed = s .handed; ended = b })
+      (boolByte-read (s .ended))
 
 -- what is kept, copied over the bytes S, and then the numbers in the place of the rest
 pub put-parts :

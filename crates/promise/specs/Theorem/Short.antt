@@ -1,0 +1,156 @@
+-- Refusals 1 and 15 are given by what is lent alone, on any session and room.
+--
+--   Apart k           k is neither 1 nor 15
+--   own-step          so is the refusal of every step, whatever the numbers and the room hold
+--   event-short       1 exactly when the buffer is too short
+--   event-small       15 exactly when a room is too small and 1 does not apply
+--
+-- Assumes nothing.
+use Prim.Native.Nat.{ℕ, _-_, _≤_, _<_}
+use native.Mathlib.Omega.{arith}
+use mathlib.Core.Logic.{_↔_}
+use mathlib.Core.Path.{_≡_, refl, sym, ap, _∙_, subst}
+use mathlib.Core.Bool.{Bool, true, false}
+use mathlib.Core.List.{List}
+use lib.Dec.{eqb, ltb}
+use lib.ListN.{length, take}
+use borrow.Author.Tests.{lt-ltb, le-ltb, ltb-true, ltb-false}
+use Rattle.choice.specs.Pick.{pick-true, pick-false, pick-either}
+use Rattle.meaning.specs.Limits.{outputNeeded, elementsNeeded, nodesNeeded}
+use Rattle.meaning.specs.Refusals.{shortOutput, shortRoom, badRecord, afterEnd, wrongClose, tooDeep, tooManyNodes, tooManyHeld}
+use Rattle.meaning.specs.Record.{eventOf}
+use Rattle.meaning.specs.Answer.{tooSmall}
+use Rattle.records.specs.declared.Event.{Event}
+use Rattle.records.specs.declared.Event.the-variants.{Open, Close, Bad}
+use Rattle.records.specs.Read.{shown}
+use Rattle.plan.specs.Plan.{Plan}
+use Rattle.plan_bytes.specs.Kept.{keptIn}
+use Rattle.element.specs.Element.{Elements, elementsIn}
+use Rattle.node.specs.Node.{Queue, queueIn}
+use Rattle.numbers.specs.Numbers.{Numbers}
+use Rattle.step.specs.Step.{refuseOpen, refuseClose, overIn, After, refusedWith, openTaken, onOpen, closeTaken, onClose, step}
+use Rattle.feed.specs.Fed.{Came}
+use Rattle.feed.specs.Steps.{Seat, seat, cameTo, stepAt}
+use Rattle.session.specs.declared.Session.{Session}
+use Rattle.session.specs.declared.Answer.{Answer}
+use Rattle.session.specs.declared.Answer.the-variants.{Refused}
+use Rattle.session.specs.Event.{Done, sessionNumbers, settled, within, beside, event}
+
+abbrev Apart : ℕ → Type 0
+Apart k = (k ≡ shortOutput → ⊥) × (k ≡ shortRoom → ⊥)
+
+-- a number that is neither
+apart : (k : ℕ) → k < 15 → (k ≡ 1 → ⊥) → Apart k
+apart k h f = (f, λ e. omega arith)
+
+own-open : (n : Numbers) → Apart (refuseOpen n)
+unfolding refuseOpen
+own-open n =
+    pick-either Apart _ _ _ (apart afterEnd (omega arith) (λ e. omega arith))
+    (pick-either Apart _ _ _ (apart tooDeep (omega arith) (λ e. omega arith))
+    (pick-either Apart _ _ _ (apart tooManyNodes (omega arith) (λ e. omega arith))
+    (pick-either Apart _ _ _ (apart tooManyHeld (omega arith) (λ e. omega arith)) (apart 0 (omega arith) (λ e. omega arith)))))
+
+own-close : (n : Numbers) (E : Elements) (x : ℕ) → Apart (refuseClose n E x)
+unfolding refuseClose
+own-close n E x =
+    let wrong : Apart wrongClose = apart wrongClose (omega arith) (λ e. omega arith) in
+    pick-either Apart _ _ _ (apart afterEnd (omega arith) (λ e. omega arith))
+    (pick-either Apart _ _ _ wrong
+    (pick-either Apart _ _ _ wrong
+    (pick-either Apart _ _ _
+    (pick-either Apart _ _ _ (apart tooManyHeld (omega arith) (λ e. omega arith)) (apart 0 (omega arith) (λ e. omega arith))) wrong)))
+
+module _ (P : Plan) (n : Numbers) (E : Elements) (N : Queue) (out : List ℕ) where
+  Own : After → Type 0
+  Own a = Apart (a .refusal)
+
+  taken-open : (x : ℕ) → Own (openTaken P x n E N out)
+  unfolding Own openTaken
+  taken-open x = apart 0 (omega arith) (λ e. omega arith)
+
+  taken-close : Own (closeTaken P n E N out)
+  unfolding Own closeTaken
+  taken-close = apart 0 (omega arith) (λ e. omega arith)
+
+  own-refused : (r : ℕ) → Apart r → Own (refusedWith r n E N out)
+  unfolding Own
+  own-refused r h = h
+
+  own-after : (e : Event) → Own (step P e n E N out)
+  unfolding step onOpen onClose
+  own-after (Open x) =
+      pick-either Own (eqb (refuseOpen n) 0) _ _
+      (pick-either Own (overIn P x (n .depth) (n .held) E N) _ _
+      (own-refused tooManyHeld (apart tooManyHeld (omega arith) (λ e. omega arith))) (taken-open x))
+      (own-refused (refuseOpen n) (own-open n))
+  own-after (Close x) =
+      pick-either Own (eqb (refuseClose n E x) 0) _ _ taken-close (own-refused (refuseClose n E x) (own-close n E x))
+  own-after Bad = own-refused badRecord (apart badRecord (omega arith) (λ e. omega arith))
+
+  own-step : (e : Event) → Apart (step P e n E N out .refusal)
+  unfolding Own
+  own-step e = own-after e
+
+own-came : (P : Plan) (s : Seat) (bytes out : List ℕ) → Apart (stepAt P s bytes out .refusal)
+unfolding stepAt cameTo
+own-came P s bytes out =
+    pick-either (λ (c : Came Seat). Apart (c .refusal)) _ _ _ (apart 0 (omega arith) (λ e. omega arith))
+    (own-step P (s .numbers) (elementsIn (s .elements)) (queueIn (s .nodes)) out (shown (eventOf bytes)))
+
+module _ (s : Session) (bytes E N out : List ℕ) where
+  -- with enough lent a refusal is the step's
+  OwnAnswer : Done → Type 0
+  OwnAnswer d = (x : ℕ) → d .answer ≡ Refused x → Apart x
+
+  own-within : OwnAnswer (beside E N (within s bytes (take elementsNeeded E) (take nodesNeeded N) out))
+  unfolding within settled OwnAnswer
+  own-within =
+      let at : Seat = seat (sessionNumbers s) (take elementsNeeded E) (take nodesNeeded N) in
+      let c : Came Seat = stepAt (keptIn (s .kept)) at bytes out in
+      pick-either (λ (d : Done). OwnAnswer (beside E N d)) (eqb (c .refusal) 0) _ _
+      (λ x e. let z : _≡_ {A = ℕ} 0 1 = cc in absurd (omega arith))
+      (λ x e. let z : x ≡ c .refusal = cc in subst Apart (sym z) (own-came (keptIn (s .kept)) at bytes out))
+
+  -- by the tests of what is lent
+  answer-short : ltb (length out) outputNeeded ≡ true → event s bytes E N out .answer ≡ Refused shortOutput
+  unfolding event
+  answer-short t = ap (λ (d : Done). d .answer) (pick-true (ltb (length out) outputNeeded) _ _ t)
+
+  answer-small :
+      ltb (length out) outputNeeded ≡ false → tooSmall (length E) (length N) ≡ true → event s bytes E N out .answer ≡ Refused shortRoom
+  unfolding event
+  answer-small f t =
+      ap (λ (d : Done). d .answer) (pick-false (ltb (length out) outputNeeded) _ _ f ∙ pick-true (tooSmall (length E) (length N)) _ _ t)
+
+  answer-own :
+      ltb (length out) outputNeeded ≡ false → tooSmall (length E) (length N) ≡ false → (x : ℕ) → event s bytes E N out .answer ≡ Refused x → Apart x
+  unfolding event OwnAnswer
+  answer-own f g x e =
+      own-within x
+      (sym
+      (ap (λ (d : Done). d .answer) (pick-false (ltb (length out) outputNeeded) _ _ f ∙ pick-false (tooSmall (length E) (length N)) _ _ g)) ∙ e)
+
+  pub event-short : (event s bytes E N out .answer ≡ Refused shortOutput) ↔ (length out < outputNeeded)
+  event-short = (λ e. to (ltb (length out) outputNeeded) (tooSmall (length E) (length N)) refl refl e, λ h. answer-short (lt-ltb _ _ h))
+    where
+      to : (x y : Bool) → ltb (length out) outputNeeded ≡ x → tooSmall (length E) (length N) ≡ y → event s bytes E N out .answer ≡ Refused shortOutput →
+          length out < outputNeeded
+      to true y p q e = ltb-true (length out) outputNeeded p
+      to false true p q e = let z : _≡_ {A = Answer} (Refused shortRoom) (Refused shortOutput) = sym (answer-small p q) ∙ e in
+          let k : shortRoom ≡ shortOutput = cc in absurd (omega arith)
+      to false false p q e = absurd (answer-own p q shortOutput e .0 refl)
+
+  pub event-small :
+      (event s bytes E N out .answer ≡ Refused shortRoom) ↔ ((outputNeeded ≤ length out) × (tooSmall (length E) (length N) ≡ true))
+  event-small = (
+    λ e. to (ltb (length out) outputNeeded) (tooSmall (length E) (length N)) refl refl e,
+    λ h. answer-small (le-ltb (length out) outputNeeded (h .0)) (h .1),
+  )
+    where
+      to : (x y : Bool) → ltb (length out) outputNeeded ≡ x → tooSmall (length E) (length N) ≡ y → event s bytes E N out .answer ≡ Refused shortRoom →
+          (outputNeeded ≤ length out) × (tooSmall (length E) (length N) ≡ true)
+      to true y p q e = let z : _≡_ {A = Answer} (Refused shortOutput) (Refused shortRoom) = sym (answer-short p) ∙ e in
+          let k : shortOutput ≡ shortRoom = cc in absurd (omega arith)
+      to false true p q e = (ltb-false (length out) outputNeeded p, q)
+      to false false p q e = absurd (answer-own p q shortRoom e .1 refl)
