@@ -9,11 +9,14 @@ use std::path::Path;
 const BLOCK: usize = 65536;
 const RECORD: usize = 8;
 
+const MOST_OPEN: usize = 256;
+const MOST_HELD: usize = 1024;
+
 /// What a call is lent: docs/FORMATS.md has the least lengths.
 const SESSION: usize = 308;
-const ELEMENTS: usize = 64 * 256;
-const NODES: usize = 32 * 1024;
-const OUTPUT: usize = 4 * (1024 + 1);
+const ELEMENTS: usize = 64 * MOST_OPEN;
+const NODES: usize = 32 * MOST_HELD;
+const OUTPUT: usize = 4 * (MOST_HELD + 1);
 const COUNTS: usize = 16;
 
 extern "C" {
