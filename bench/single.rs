@@ -109,22 +109,11 @@ impl Picker {
         }
     }
 
-    fn lines(&self, nodes: usize, text: &mut Vec<u8>) {
+    fn lines(&self, nodes: usize, text: &mut Vec<u8>) -> io::Result<()> {
         for record in self.out[..4 * nodes].chunks_exact(4) {
-            let mut number = u32::from_be_bytes(record.try_into().unwrap());
-            let mut digits = [0; 10];
-            let mut first = digits.len();
-            loop {
-                first -= 1;
-                digits[first] = b'0' + (number % 10) as u8;
-                number /= 10;
-                if number == 0 {
-                    break;
-                }
-            }
-            text.extend_from_slice(&digits[first..]);
-            text.push(b'\n');
+            writeln!(text, "{}", u32::from_be_bytes(record.try_into().unwrap()))?;
         }
+        Ok(())
     }
 }
 
@@ -144,7 +133,7 @@ fn run(mut picker: Picker, mut events: impl Read, to: &mut impl Write) -> io::Re
                 return Ok(format!("refused {} at {}", answer % 256, taken + 1));
             }
             taken += 1;
-            picker.lines((answer / 256) as usize, &mut text);
+            picker.lines((answer / 256) as usize, &mut text)?;
         }
         to.write_all(&text)?;
         text.clear();

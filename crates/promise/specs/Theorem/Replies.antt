@@ -181,14 +181,24 @@ module _ {b : List ℕ} {us : List Use} {rs : List Reply} {l : Housed} (x : Reac
 
 -- an event on any session and room
 
+-- a room A after an event that was lent B: what lies past the needed part, and how long it is
+abbrev SameRoom : ℕ → List ℕ → List ℕ → Type 0
+SameRoom needed A B = (drop needed A ≡ drop needed B) × (length A ≡ length B)
+
+-- one of which the needed part came back as A
+room-beside : (needed : ℕ) (A B : List ℕ) → length A ≡ needed → needed ≤ length B → SameRoom needed (A ++ drop needed B) B
+room-beside needed A B long enough = (
+  drop-at A (drop needed B) needed long,
+  length-append A (drop needed B) ∙ omega (arith, length-drop needed B),
+)
+
 module _ (s : Session) (bytes E N out : List ℕ) where
   -- what comes back of a refused event
   Back : Done → Type 0
   Back d = (n : ℕ) → d .answer ≡ Refused n → (d .session ≡ s) × ((d .elements ≡ E) × ((d .nodes ≡ N) × (d .out ≡ out)))
 
-  -- what lies past the needed room
-  Past : Done → Type 0
-  Past d = (drop elementsNeeded (d .elements) ≡ drop elementsNeeded E) × (drop nodesNeeded (d .nodes) ≡ drop nodesNeeded N)
+  Rooms : Done → Type 0
+  Rooms d = SameRoom elementsNeeded (d .elements) E × SameRoom nodesNeeded (d .nodes) N
 
   abbrev at : Seat
   at = seat (sessionNumbers s) (take elementsNeeded E) (take nodesNeeded N)
@@ -204,62 +214,34 @@ module _ (s : Session) (bytes E N out : List ℕ) where
       (pick-either (λ (d : Done). Back (beside E N d)) (eqb (came .refusal) 0) _ _ (λ n e. let z : _≡_ {A = ℕ} 0 1 = cc in absurd (omega arith))
       (λ n e. (refl, (take-append-drop elementsNeeded E, (take-append-drop nodesNeeded N, refl))))))
 
-  past-beside :
-      (a : Answer) (t : Session) (A B o : List ℕ) → length A ≡ elementsNeeded → length B ≡ nodesNeeded →
-      Past (beside E N (record { answer = a; session = t; elements = A; nodes = B; out = o }))
-  unfolding Past
-  past-beside a t A B o longE longN =
-      (drop-at A (drop elementsNeeded E) elementsNeeded longE, drop-at B (drop nodesNeeded N) nodesNeeded longN)
-
-  past : Past (event s bytes E N out)
-  unfolding event within settled
-  past =
-      pick-either Past _ _ _ (unfold Past in (refl, refl))
-      (pick-known Past (tooSmall (length E) (length N)) _ _ (λ t. unfold Past in (refl, refl))
+  rooms : Rooms (event s bytes E N out)
+  unfolding event within settled Rooms
+  rooms =
+      pick-either Rooms _ _ _ ((refl, refl), (refl, refl))
+      (pick-known Rooms (tooSmall (length E) (length N)) _ _ (λ t. ((refl, refl), (refl, refl)))
       (λ f.
-      let longE : length (take elementsNeeded E) ≡ elementsNeeded = length-take-le elementsNeeded E (room-long E N f .0) in
-      let longN : length (take nodesNeeded N) ≡ nodesNeeded = length-take-le nodesNeeded N (room-long E N f .1) in
+      let enough = room-long E N f in
+      let longE : length (take elementsNeeded E) ≡ elementsNeeded = length-take-le elementsNeeded E (enough .0) in
+      let longN : length (take nodesNeeded N) ≡ nodesNeeded = length-take-le nodesNeeded N (enough .1) in
       let whole : Whole (came .seat) =
       whole-step (keptIn (s .kept)) at bytes out (record { elements = longE; nodes = longN; said = boolByte-le (s .ended) }) in
-      pick-either (λ (d : Done). Past (beside E N d)) (eqb (came .refusal) 0) _ _
-      (past-beside _ _ (came .seat .elements) (came .seat .nodes) _ (whole .elements) (whole .nodes))
-      (past-beside _ _ (take elementsNeeded E) (take nodesNeeded N) _ longE longN)))
-
-  -- the room is as long as it was
-  Long : Done → Type 0
-  Long d = (length (d .elements) ≡ length E) × (length (d .nodes) ≡ length N)
-
-  long-beside :
-      (a : Answer) (t : Session) (A B o : List ℕ) → length A ≡ elementsNeeded → length B ≡ nodesNeeded →
-      (elementsNeeded ≤ length E) × (nodesNeeded ≤ length N) → Long (beside E N (record { answer = a; session = t; elements = A; nodes = B; out = o }))
-  unfolding Long
-  long-beside a t A B o longE longN h = (
-    length-append A (drop elementsNeeded E) ∙ omega (arith, length-drop elementsNeeded E, h .0),
-    length-append B (drop nodesNeeded N) ∙ omega (arith, length-drop nodesNeeded N, h .1),
-  )
-
-  long : Long (event s bytes E N out)
-  unfolding event within settled
-  long =
-      pick-either Long _ _ _ (unfold Long in (refl, refl))
-      (pick-known Long (tooSmall (length E) (length N)) _ _ (λ t. unfold Long in (refl, refl))
-      (λ f.
-      let longE : length (take elementsNeeded E) ≡ elementsNeeded = length-take-le elementsNeeded E (room-long E N f .0) in
-      let longN : length (take nodesNeeded N) ≡ nodesNeeded = length-take-le nodesNeeded N (room-long E N f .1) in
-      let whole : Whole (came .seat) =
-      whole-step (keptIn (s .kept)) at bytes out (record { elements = longE; nodes = longN; said = boolByte-le (s .ended) }) in
-      pick-either (λ (d : Done). Long (beside E N d)) (eqb (came .refusal) 0) _ _
-      (long-beside _ _ (came .seat .elements) (came .seat .nodes) _ (whole .elements) (whole .nodes) (room-long E N f))
-      (long-beside _ _ (take elementsNeeded E) (take nodesNeeded N) _ longE longN (room-long E N f))))
+      pick-either (λ (d : Done). Rooms (beside E N d)) (eqb (came .refusal) 0) _ _ (
+        room-beside elementsNeeded (came .seat .elements) E (whole .elements) (enough .0),
+        room-beside nodesNeeded (came .seat .nodes) N (whole .nodes) (enough .1),
+      ) (
+        room-beside elementsNeeded (take elementsNeeded E) E longE (enough .0),
+        room-beside nodesNeeded (take nodesNeeded N) N longN (enough .1),
+      )))
 
 pub same :
     (s : Session) (bytes E N out : List ℕ) (r : Step) (E′ N′ out′ : List ℕ) → EventGives s bytes E N out r E′ N′ out′ → Same s bytes E N out r E′ N′ out′
-unfolding Back Past
+unfolding Back Rooms
 same s bytes E N out r E′ N′ out′ g =
     let is = event-is s bytes E N out r E′ N′ out′ g in
+    let kept = subst (Rooms s bytes E N out) (sym is) (rooms s bytes E N out) in
     record {
       refused-same = subst (Back s bytes E N out) (sym is) (back s bytes E N out);
-      past-same = subst (Past s bytes E N out) (sym is) (past s bytes E N out);
+      past-same = (kept .0 .0, kept .1 .0);
       short-exactly = subst (λ (d : Done). (d .answer ≡ Refused shortOutput) ↔ (length out < outputNeeded)) (sym is) (event-short s bytes E N out);
       small-exactly =
           subst (λ (d : Done). (d .answer ≡ Refused shortRoom) ↔ ((outputNeeded ≤ length out) × (tooSmall (length E) (length N) ≡ true))) (sym is)
@@ -269,8 +251,9 @@ same s bytes E N out r E′ N′ out′ g =
 pub event-long :
     (s : Session) (bytes E N out : List ℕ) (r : Step) (E′ N′ out′ : List ℕ) → EventGives s bytes E N out r E′ N′ out′ →
     (length E′ ≡ length E) × (length N′ ≡ length N)
-unfolding Long
-event-long s bytes E N out r E′ N′ out′ g = subst (Long s bytes E N out) (sym (event-is s bytes E N out r E′ N′ out′ g)) (long s bytes E N out)
+unfolding Rooms
+event-long s bytes E N out r E′ N′ out′ g =
+    let kept = subst (Rooms s bytes E N out) (sym (event-is s bytes E N out r E′ N′ out′ g)) (rooms s bytes E N out) in (kept .0 .1, kept .1 .1)
 
 -- begin
 
