@@ -2,7 +2,6 @@
 --
 --   Done                     an event's answer, the next session, and all that was lent, byte for byte
 --   refused n s E N out      a refusal: all as it was
---   refuseLent out E N       the refusal for what is lent, by its lengths, or 0;  LentFits: what is known where it is 0
 --   sessionNumbers s, withNumbers s n       the session's numbers; the same session with the numbers n
 --   settled s E N out c      what a step that came to c leaves in the room that is needed
 --   within s bytes E N out   an event on the room that is needed
@@ -14,7 +13,7 @@
 --
 -- Assumes nothing. NOT here: what a step does (crate step), which bytes are which event (crate meaning, Record).
 pub mod Laws
-use Prim.Native.Nat.{ℕ, _≤_}
+use Prim.Native.Nat.{ℕ}
 use mathlib.Core.Path.{_≡_}
 use mathlib.Core.Bool.{not}
 use mathlib.Core.List.{List, _++_}
@@ -47,16 +46,6 @@ pub record Done : Type 0 where
 
 abbrev pub refused : ℕ → Session → List ℕ → List ℕ → List ℕ → Done
 refused n s E N out = record { answer = Refused n; session = s; elements = E; nodes = N; out = out }
-
--- "1: output buffer under 4,100 bytes", "lent room under 16,384 bytes for the open elements or under 32,768 bytes for the waiting nodes"
-unfoldable pub refuseLent : ℕ → ℕ → ℕ → ℕ
-refuseLent out elements nodes =
-    pick (ltb out outputNeeded) shortOutput (pick (ltb elements elementsNeeded) shortRoom (pick (ltb nodes nodesNeeded) shortRoom 0))
-
-pub record LentFits (out elements nodes : ℕ) : Type 0 where
-  pub wide : outputNeeded ≤ out
-  pub deep : elementsNeeded ≤ elements
-  pub held : nodesNeeded ≤ nodes
 
 abbrev pub sessionNumbers : Session → Numbers
 sessionNumbers s = numbers.numbersOf (s .depth) (s .held) (s .opened) (s .handed) (boolByte (s .ended))

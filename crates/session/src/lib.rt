@@ -6,7 +6,7 @@ ghost use lib.ListN.{length};
 ghost use Rattle.meaning.specs.Limits.{outputNeeded, elementsNeeded, nodesNeeded};
 ghost use Rattle.numbers.specs.Numbers.{numbersRoom, numbersIn};
 ghost use Rattle.session.specs.Begin.{fresh, BeginGives};
-ghost use Rattle.session.specs.Event.{refuseLent, LentFits, sessionNumbers, withNumbers, within, EventGives, FinishGives};
+ghost use Rattle.session.specs.Event.{sessionNumbers, withNumbers, within, EventGives, FinishGives};
 ghost use Rattle.session.specs.Run.{ran, runWithin, RunGives};
 use plan::Plan;
 use query::QueryAnswer;
@@ -81,34 +81,13 @@ fn fresh(plan: Plan) -> Session
     }
 }
 
-// The refusal for what an event is lent, by the lengths, or 0: "15 comes directly after 1 and before all others".
-fn refuse_lent(out: usize, elements: usize, nodes: usize) -> u8
-    ensures { λ r. ⌜ (r ≡ refuseLent out elements nodes) × (r ≡ 0 → LentFits out elements nodes) ⌝ }
-{
-    if out < limits::OUTPUT {
-        return limits::SHORT_OUTPUT;
-    }
-    if elements < limits::ELEMENTS_ROOM {
-        return limits::SHORT_ROOM;
-    }
-    if nodes < limits::NODES_ROOM {
-        return limits::SHORT_ROOM;
-    }
-    0
-}
-
 // A session for a query. Nothing is asked of the content of the lent room, and none of it is read or written.
 pub fn begin(query: &[u8], elements: &[u8], nodes: &[u8]) -> Begun
     ensures { λ r. ⌜ BeginGives (now (query .entry)) (now (elements .entry)) (now (nodes .entry)) r ⌝ }
 {
     let blank = fresh(plan::plan_of(&query[..0]));
-    if elements.len() < limits::ELEMENTS_ROOM {
-        return Begun {
-            answer: Start::ShortRoom,
-            session: blank,
-        };
-    }
-    if nodes.len() < limits::NODES_ROOM {
+    let short = lent::refuse_room(elements.len(), nodes.len());
+    if short != 0 {
         return Begun {
             answer: Start::ShortRoom,
             session: blank,
@@ -194,7 +173,7 @@ impl Session {
         ensures { λ r. ⌜ EventGives self (now (bytes .entry)) (now (elements .entry)) (now (nodes .entry)) (now (out .entry)) r
             (now (elements .exit)) (now (nodes .exit)) (now (out .exit)) ⌝ }
     {
-        let refusal = refuse_lent(out.len(), elements.len(), nodes.len());
+        let refusal = lent::refuse_lent(out.len(), elements.len(), nodes.len());
         if refusal != 0 {
             return Step {
                 answer: Answer::Refused(refusal),
@@ -253,7 +232,7 @@ impl Session {
         if out.len() < limits::OUTPUT {
             return self.stays(0);
         }
-        let room = refuse_lent(out.len(), elements.len(), nodes.len());
+        let room = lent::refuse_lent(out.len(), elements.len(), nodes.len());
         if room != 0 {
             return self.stays(room);
         }

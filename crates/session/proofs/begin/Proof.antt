@@ -1,9 +1,7 @@
 -- Case by case (Begin.Laws). Assumes nothing.
 use borrow.Author.Needs.{needs}
-use native.Mathlib.Omega.{arith}
 use mathlib.Core.Path.{refl}
-use Rattle.meaning.specs.Answer.Laws.{few-elements, few-nodes, not-small}
-use Rattle.meaning.specs.Limits.Laws.{elements-is, nodes-is}
+use Rattle.lent.specs.Lent.Laws.{room-enough, room-short}
 use Rattle.session.specs.Begin.Laws.{begin-short, begin-admitted, begin-long, begin-broken}
 use Rattle.session.proofs.begin.Statement.{statement}
 use Rattle.session.proofs.begin.Tie as tie
@@ -17,11 +15,11 @@ plan-of-requires c κs = search needs
 fresh-requires : tie.Need-fresh-requires
 fresh-requires c κs = search needs
 
-returns : tie.Need-returns
-returns c = begin-short _ _ _ _ _ _ refl (few-elements _ _ (omega (arith, elements-is))) (c .before .before .plan-of .ensures) (c .before .fresh .ensures)
+refuse-room-requires : tie.Need-refuse-room-requires
+refuse-room-requires c κs = search needs
 
-returns-2 : tie.Need-returns-2
-returns-2 c = begin-short _ _ _ _ _ _ refl (few-nodes _ _ (omega (arith, elements-is)) (omega (arith, nodes-is)))
+returns : tie.Need-returns
+returns c = begin-short _ _ _ _ _ _ refl (room-short _ _ _ (c .before .refuse-room .ensures .0) (c .if1 .taken) .1)
     (c .before .before .before .plan-of .ensures) (c .before .before .fresh .ensures)
 
 check-requires : tie.Need-check-requires
@@ -42,19 +40,23 @@ enum-told-2 c = search needs
 enum-known-answer : tie.Need-enum-known-answer
 enum-known-answer c = search needs
 
+returns-2 : tie.Need-returns-2
+returns-2 c = let at-check = c .before .before .before .before in
+    let enough = room-enough _ _ (at-check .before .before .refuse-room .ensures .1 (at-check .before .if1 .left)) in
+    begin-admitted _ _ _ _ _ enough _ (c .fresh2 .ensures) _ (at-check .check .ensures) (c .before .before .enum-told .given .1) refl
+    (c .before .plan-of2 .ensures)
+
 returns-3 : tie.Need-returns-3
-returns-3 c = begin-admitted _ _ _ _ _ (not-small _ _ (omega (arith, elements-is)) (omega (arith, nodes-is))) _ (c .fresh2 .ensures) _
-    (c .before .before .before .before .check .ensures) (c .before .before .enum-told .given .1) refl (c .before .plan-of2 .ensures)
+returns-3 c = let at-check = c .before .before in
+    let enough = room-enough _ _ (at-check .before .before .refuse-room .ensures .1 (at-check .before .if1 .left)) in
+    begin-long _ _ _ _ _ enough _ (at-check .before .before .before .fresh .ensures) _ (at-check .check .ensures) (c .enum-told2 .given .1) refl
+    (at-check .before .before .before .before .plan-of .ensures)
 
 returns-4 : tie.Need-returns-4
-returns-4 c = begin-long _ _ _ _ _ (not-small _ _ (omega (arith, elements-is)) (omega (arith, nodes-is))) _
-    (c .before .before .before .before .before .fresh .ensures) _ (c .before .before .check .ensures) (c .enum-told2 .given .1) refl
-    (c .before .before .before .before .before .before .plan-of .ensures)
-
-returns-5 : tie.Need-returns-5
-returns-5 c = begin-broken _ _ _ _ _ (not-small _ _ (omega (arith, elements-is)) (omega (arith, nodes-is))) _
-    (c .before .before .before .before .before .before .fresh .ensures) _ (c .before .before .before .check .ensures) _ (c .before .answer .given .1) refl
-    (c .before .before .before .before .before .before .before .plan-of .ensures)
+returns-4 c = let at-check = c .before .before .before in
+    let enough = room-enough _ _ (at-check .before .before .refuse-room .ensures .1 (at-check .before .if1 .left)) in
+    begin-broken _ _ _ _ _ enough _ (at-check .before .before .before .fresh .ensures) _ (at-check .check .ensures) _ (c .before .answer .given .1) refl
+    (at-check .before .before .before .before .plan-of .ensures)
 
 pub begin-spec : {M : Type 1} → statement M
 begin-spec =
@@ -63,14 +65,14 @@ begin-spec =
     slice-aggregate-plan-of
     plan-of-requires
     fresh-requires
+    refuse-room-requires
     returns
-    returns-2
     check-requires
     enum-told
     plan-of-requires-2
     fresh-requires-2
     enum-told-2
     enum-known-answer
+    returns-2
     returns-3
-    returns-4
-    returns-5)
+    returns-4)

@@ -1,6 +1,5 @@
 -- What the calls of begin give together, and that begin's promise allows one result.
 --
---   elements-is, nodes-is     the needed room as numbers;  short-elements, short-nodes, room-enough: whether it is there
 --   begin-short                                   the lent room is too small
 --   begin-admitted, begin-long, begin-broken      for each case of the check's answer: the answer and the session beside it
 --   begin-one                                     two results that the promise of `begin` allows are equal

@@ -2,7 +2,7 @@
 --
 --   with-parts                         the numbers one by one
 --   within-refused, within-taken       an event that is refused, and one that is taken, on the room that is needed
---   event-lent, lent-small             refusals 1 and 15, by the lengths of what is lent; with enough of a buffer it is 15
+--   event-lent                         refusals 1 and 15, by the lengths of what is lent
 --   event-parts                        any other answer, by the parts of the room that were lent on
 --   event-is, finish-is                a result that the promise allows is the model's
 --   event-one, finish-one              two results that the promise allows are equal, and so is all that was lent
@@ -10,16 +10,17 @@
 -- The session and what a step came to are given explicitly: they are too large to be found. Assumes nothing.
 use Prim.Native.Nat.{ℕ, _≤_}
 use mathlib.Core.Path.{_≡_, refl, sym, ap, ap₂, _∙_}
-use mathlib.Core.Bool.{Bool, true, false, not, _||_}
+use mathlib.Core.Bool.{Bool, true, false, not}
 use mathlib.Core.List.{List, _++_}
 use lib.Dec.{eqb}
 use lib.ListN.{length, take, drop}
 use borrow.Author.Tests.{eq-eqb, ne-eqb, le-ltb}
-use Rattle.choice.specs.Pick.{pick, pick-false, pick-yes, pick-no}
+use Rattle.choice.specs.Pick.{pick, pick-yes, pick-no}
 use Rattle.meaning.specs.Record.{eventOf}
 use Rattle.meaning.specs.Refusals.{shortOutput, shortRoom}
 use Rattle.meaning.specs.Answer.{tooSmall}
 use Rattle.meaning.specs.Limits.{outputNeeded, elementsNeeded, nodesNeeded}
+use Rattle.lent.specs.Lent.{refuseRoom, refuseLent}
 use Rattle.records.specs.Read.{shown}
 use Rattle.words.specs.Words.{Bytes}
 use Rattle.element.specs.Element.{elementsIn}
@@ -35,7 +36,7 @@ use Rattle.session.specs.declared.Answer.{Answer}
 use Rattle.session.specs.declared.Answer.the-variants.{Refused, Taken}
 use Rattle.session.specs.declared.Step.{Step}
 use Rattle.session.specs.declared.Finish as finished
-use Rattle.session.specs.Event.{Done, refused, refuseLent, sessionNumbers, withNumbers, settled, within, beside, event}
+use Rattle.session.specs.Event.{Done, refused, sessionNumbers, withNumbers, settled, within, beside, event}
 use Rattle.session.specs.Event.{ToldDone, toldAs, toldOf, EventGives, finish, FinishGives}
 use Rattle.session.specs.Told.{told, told-one, ended-one}
 
@@ -85,31 +86,18 @@ module _ (s : Session) (bytes E N out E′ N′ out′ : List ℕ) (refusal give
 -- on any room, by the tests of what is lent
 
 lent-cases :
-    (a b c : Bool) (r : ℕ) (s : Session) (E N out : List ℕ) (d : Done) → r ≡ pick a shortOutput (pick b shortRoom (pick c shortRoom 0)) → (r ≡ 0 → ⊥) →
-    _≡_ {A = Done} (refused r s E N out) (pick a (refused shortOutput s E N out) (pick (b || c) (refused shortRoom s E N out) d))
+    (a b : Bool) (r : ℕ) (s : Session) (E N out : List ℕ) (d : Done) → r ≡ pick a shortOutput (pick b shortRoom 0) → (r ≡ 0 → ⊥) →
+    _≡_ {A = Done} (refused r s E N out) (pick a (refused shortOutput s E N out) (pick b (refused shortRoom s E N out) d))
 unfolding pick
-lent-cases true b c r s E N out d e f = ap (λ (k : ℕ). refused k s E N out) e
-lent-cases false true c r s E N out d e f = ap (λ (k : ℕ). refused k s E N out) e
-lent-cases false false true r s E N out d e f = ap (λ (k : ℕ). refused k s E N out) e
-lent-cases false false false r s E N out d e f = absurd (f e)
-
-small-cases : (b c : Bool) (r : ℕ) → r ≡ pick b shortRoom (pick c shortRoom 0) → (r ≡ 0 → ⊥) → (r ≡ shortRoom) × ((b || c) ≡ true)
-unfolding pick
-small-cases true c r e f = (e, refl)
-small-cases false true r e f = (e, refl)
-small-cases false false r e f = absurd (f e)
-
-pub lent-small :
-    (E N out : List ℕ) (r : ℕ) → r ≡ refuseLent (length out) (length E) (length N) → (r ≡ 0 → ⊥) → outputNeeded ≤ length out →
-    (r ≡ shortRoom) × (tooSmall (length E) (length N) ≡ true)
-unfolding refuseLent tooSmall
-lent-small E N out r e f h = small-cases _ _ r (e ∙ pick-false _ _ _ (le-ltb _ _ h)) f
+lent-cases true b r s E N out d e f = ap (λ (k : ℕ). refused k s E N out) e
+lent-cases false true r s E N out d e f = ap (λ (k : ℕ). refused k s E N out) e
+lent-cases false false r s E N out d e f = absurd (f e)
 
 module _ (s : Session) (bytes E N out : List ℕ) where
   pub event-lent :
       (r : ℕ) → r ≡ refuseLent (length out) (length E) (length N) → (r ≡ 0 → ⊥) → toldAs (Refused r) s E N out ≡ toldOf (event s bytes E N out)
-  unfolding event refuseLent tooSmall
-  event-lent r e f = ap (λ (d : Done). toldOf d) (lent-cases _ _ _ r s E N out _ e f)
+  unfolding event refuseLent refuseRoom
+  event-lent r e f = ap (λ (d : Done). toldOf d) (lent-cases _ _ r s E N out _ e f)
 
   event-within :
       (d : Done) (E′ N′ : List ℕ) → outputNeeded ≤ length out → tooSmall (length E) (length N) ≡ false →

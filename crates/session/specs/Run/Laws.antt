@@ -33,8 +33,9 @@ use Rattle.feed.specs.Steps.{Seat, seat, came, stepAt, Whole}
 use Rattle.feed.specs.Steps.Laws.{refused-at, whole-step}
 use Rattle.session.specs.declared.Session.{Session}
 use Rattle.session.specs.declared.Ran.{Ran}
-use Rattle.session.specs.Event.{Done, refuseLent, sessionNumbers, withNumbers, settled, within, beside, event}
-use Rattle.session.specs.Event.Laws.{lent-small}
+use Rattle.session.specs.Event.{Done, sessionNumbers, withNumbers, settled, within, beside, event}
+use Rattle.lent.specs.Lent.{refuseLent}
+use Rattle.lent.specs.Lent.Laws.{lent-short}
 use Rattle.session.specs.Run.{Housed, housed, refusalOf, givenOf, cameAs, eventAt, ran, runWithin, RunGives}
 
 -- the numbers there and back
@@ -164,7 +165,7 @@ module _ (s : Session) (es E N out : List ℕ) where
   -- "15 comes directly after 1 and before all others"
   small-event :
       (bytes : List ℕ) → outputNeeded ≤ length out → tooSmall (length E) (length N) ≡ true →
-      eventAt (housed s E N) bytes out ≡ record { refusal = 15; given = 0; seat = housed s E N; out = out }
+      eventAt (housed s E N) bytes out ≡ record { refusal = shortRoom; given = 0; seat = housed s E N; out = out }
   unfolding eventAt event refusalOf givenOf
   small-event bytes h k = ap (λ (d : Done). cameAs d) (pick-false _ _ _ (le-ltb _ _ h) ∙ pick-true _ _ _ k)
 
@@ -177,14 +178,14 @@ module _ (s : Session) (es E N out : List ℕ) where
       pick-no _ _ _ _ (le-ltb _ _ h)
       (sym (ap (λ (c : Came Housed). pick (eqb (c .refusal) 0)
       (andThen (one c) (fed eventAt n (c .seat) (drop 8 es) (drop (4 * c .given) (c .out)))) (one c)) (small-event (take 8 es) h k)
-      ∙ pick-false _ _ _ (ne-eqb 15 0 (λ z. omega arith))))
+      ∙ pick-false _ _ _ (ne-eqb shortRoom 0 (λ z. omega arith))))
 
   pub run-small :
       (refusal : ℕ) (r : Ran) → r ≡ stayed s refusal → refusal ≡ refuseLent (length out) (length E) (length N) → (refusal ≡ 0 → ⊥) → 8 ≤ length es →
       outputNeeded ≤ length out → Gives r
   run-small refusal r e k f l h =
-      let p = lent-small E N out refusal k f h in
-      still 15 r (e ∙ ap (stayed s) (p .0)) (small (length es / 8) (omega arith) h (p .1))
+      let p = lent-short (length E) (length N) refusal (length out) k f h in
+      still shortRoom r (e ∙ ap (stayed s) (p .0)) (small (length es / 8) (omega arith) h (p .1))
 
 -- any other block: k and l are how long the parts of the room are that were lent on
 

@@ -3,7 +3,7 @@ use borrow.Author.Needs.{needs}
 use native.Mathlib.Omega.{arith}
 use mathlib.Core.Path.{sym, _∙_}
 use lib.Seq.{length-take-le}
-use Rattle.meaning.specs.Answer.Laws.{not-small}
+use Rattle.lent.specs.Lent.Laws.{room-enough}
 use Rattle.meaning.specs.Limits.Laws.{elements-is, nodes-is}
 use Rattle.session.specs.Event.Laws.{event-lent, event-parts}
 use Rattle.session.proofs.Session.event.Statement.{statement}
@@ -20,29 +20,29 @@ returns c = let args = c .before .before .before .before .before .before .args i
 slice-relend-prefix-within : tie.Need-slice-relend-prefix-within
 slice-relend-prefix-within c = let at-if = c in
     let fits = at-if .before .refuse-lent .ensures .1 (at-if .if1 .left) in
-    omega (arith, elements-is, fits .deep)
+    omega (arith, elements-is, fits .room .deep)
 
 slice-aggregate-within : tie.Need-slice-aggregate-within
 slice-aggregate-within c = let at-if = c .before in
     let fits = at-if .before .refuse-lent .ensures .1 (at-if .if1 .left) in
-    sym (length-take-le 16384 (at-if .before .before .before .before .before .before .args .elements .now) (omega (arith, elements-is, fits .deep)))
+    sym (length-take-le _ (at-if .before .before .before .before .before .before .args .elements .now) (omega (arith, elements-is, fits .room .deep)))
 
 slice-relend-prefix-within-2 : tie.Need-slice-relend-prefix-within-2
 slice-relend-prefix-within-2 c = let at-if = c .before in
     let fits = at-if .before .refuse-lent .ensures .1 (at-if .if1 .left) in
-    omega (arith, nodes-is, fits .held)
+    omega (arith, nodes-is, fits .room .held)
 
 slice-aggregate-within-2 : tie.Need-slice-aggregate-within-2
 slice-aggregate-within-2 c = let at-if = c .before .before in
     let fits = at-if .before .refuse-lent .ensures .1 (at-if .if1 .left) in
-    sym (length-take-le 32768 (at-if .before .before .before .before .before .before .args .nodes .now) (omega (arith, nodes-is, fits .held)))
+    sym (length-take-le _ (at-if .before .before .before .before .before .before .args .nodes .now) (omega (arith, nodes-is, fits .room .held)))
 
 within-requires : tie.Need-within-requires
 within-requires c κs = let at-if = c .before .before .before in
     let fits = at-if .before .refuse-lent .ensures .1 (at-if .if1 .left) in
     let args = at-if .before .before .before .before .before .before .args in (
-      length-take-le 16384 (args .elements .now) (omega (arith, elements-is, fits .deep)) ∙ sym elements-is,
-      (length-take-le 32768 (args .nodes .now) (omega (arith, nodes-is, fits .held)) ∙ sym nodes-is, fits .wide),
+      length-take-le _ (args .elements .now) (omega (arith, elements-is, fits .room .deep)) ∙ sym elements-is,
+      (length-take-le _ (args .nodes .now) (omega (arith, nodes-is, fits .room .held)) ∙ sym nodes-is, fits .wide),
     )
 
 same-length : tie.Need-same-length
@@ -58,8 +58,8 @@ returns-2 : tie.Need-returns-2
 returns-2 c = let at-if = c .before .before .before .before .before .before .before .before .before .before in
     let fits = at-if .before .refuse-lent .ensures .1 (at-if .if1 .left) in
     let args = at-if .before .before .before .before .before .before .args in
-    event-parts (args .self) (args .bytes .now) (args .elements .now) (args .nodes .now) (args .out .now) _ _ _ _ _ 16384 32768 elements-is nodes-is
-    (fits .wide) (not-small _ _ (fits .deep) (fits .held)) (c .before .before .before .before .before .before .within .ensures)
+    event-parts (args .self) (args .bytes .now) (args .elements .now) (args .nodes .now) (args .out .now) _ _ _ _ _ _ _ elements-is nodes-is
+    (fits .wide) (room-enough _ _ (fits .room)) (c .before .before .before .before .before .before .within .ensures)
 
 pub event-spec : {M : Type 1} → statement M
 event-spec =

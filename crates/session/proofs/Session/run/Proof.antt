@@ -39,31 +39,31 @@ returns-3 c = let at-lent = c .before .before in
 slice-relend-prefix-run-within : tie.Need-slice-relend-prefix-run-within
 slice-relend-prefix-run-within c = let at-if = c in
     let fits = at-if .before .refuse-lent .ensures .1 (at-if .if3 .left) in
-    omega (arith, elements-is, fits .deep)
+    omega (arith, elements-is, fits .room .deep)
 
 slice-aggregate-run-within : tie.Need-slice-aggregate-run-within
 slice-aggregate-run-within c = let at-if = c .before in
     let fits = at-if .before .refuse-lent .ensures .1 (at-if .if3 .left) in
     let elements = at-if .before .before .before .before .before .before .before .before .args .elements .now in
-    sym (length-take-le 16384 elements (omega (arith, elements-is, fits .deep)))
+    sym (length-take-le _ elements (omega (arith, elements-is, fits .room .deep)))
 
 slice-relend-prefix-run-within-2 : tie.Need-slice-relend-prefix-run-within-2
 slice-relend-prefix-run-within-2 c = let at-if = c .before in
     let fits = at-if .before .refuse-lent .ensures .1 (at-if .if3 .left) in
-    omega (arith, nodes-is, fits .held)
+    omega (arith, nodes-is, fits .room .held)
 
 slice-aggregate-run-within-2 : tie.Need-slice-aggregate-run-within-2
 slice-aggregate-run-within-2 c = let at-if = c .before .before in
     let fits = at-if .before .refuse-lent .ensures .1 (at-if .if3 .left) in
     let nodes = at-if .before .before .before .before .before .before .before .before .args .nodes .now in
-    sym (length-take-le 32768 nodes (omega (arith, nodes-is, fits .held)))
+    sym (length-take-le _ nodes (omega (arith, nodes-is, fits .room .held)))
 
 run-within-requires : tie.Need-run-within-requires
 run-within-requires c κs = let at-if = c .before .before .before in
     let fits = at-if .before .refuse-lent .ensures .1 (at-if .if3 .left) in
     let args = at-if .before .before .before .before .before .before .before .before .args in (
-      length-take-le 16384 (args .elements .now) (omega (arith, elements-is, fits .deep)) ∙ sym elements-is,
-      length-take-le 32768 (args .nodes .now) (omega (arith, nodes-is, fits .held)) ∙ sym nodes-is,
+      length-take-le _ (args .elements .now) (omega (arith, elements-is, fits .room .deep)) ∙ sym elements-is,
+      length-take-le _ (args .nodes .now) (omega (arith, nodes-is, fits .room .held)) ∙ sym nodes-is,
     )
 
 same-length : tie.Need-same-length
@@ -80,8 +80,8 @@ returns-4 c = let at-if = c .before .before .before .before .before .before .bef
     let fits = at-if .before .refuse-lent .ensures .1 (at-if .if3 .left) in
     let at-run = c .before .before .before .before .before .before in
     let args = at-if .before .before .before .before .before .before .before .before .args in (
-      run-parts (args .self) (args .events .now) (args .elements .now) (args .nodes .now) (args .out .now) 16384 32768 elements-is nodes-is
-          (omega (arith, elements-is, fits .deep)) (omega (arith, nodes-is, fits .held)) _ _ _ _ (at-run .run-within .ensures .0),
+      run-parts (args .self) (args .events .now) (args .elements .now) (args .nodes .now) (args .out .now) _ _ elements-is nodes-is
+          (omega (arith, elements-is, fits .room .deep)) (omega (arith, nodes-is, fits .room .held)) _ _ _ _ (at-run .run-within .ensures .0),
       at-run .run-within .ensures .1,
     )
 
