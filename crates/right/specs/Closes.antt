@@ -31,7 +31,8 @@ use Rattle.elements.specs.Elements.Laws.{possible-front}
 use Rattle.node.specs.Node.{Queue}
 use Rattle.nodes.specs.Nodes.{with, levelOf, numbers, Moved, movedBy, movedFrom, Handed, handedOut}
 use Rattle.numbers.specs.Numbers.{Numbers}
-use Rattle.step.specs.Step.{CloseFits, closeNumbers, movedOut, closeWith, closeOut, closeBy, closeTaken}
+use Rattle.tally.specs.Tally.{CloseFits, closeNumbers}
+use Rattle.step.specs.Step.{movedOut, closeWith, closeOut, closeBy, closeTaken}
 use Rattle.right.specs.Lists.{shifted-took, shifted-length}
 use Rattle.right.specs.Used.{stateIn, Roomy, Takes, same-state}
 

@@ -28,7 +28,8 @@ use Rattle.element.specs.Element.{Elements}
 use Rattle.node.specs.Node.{Queue}
 use Rattle.nodes.specs.Nodes.{numbers, Joined, joined, handedOut}
 use Rattle.numbers.specs.Numbers.{Numbers}
-use Rattle.step.specs.Step.{OpenFits, overIn, goingOf, openWith, openBy, openedBy, openingIn, openTaken, openNumbers}
+use Rattle.tally.specs.Tally.{OpenFits, openNumbers}
+use Rattle.step.specs.Step.{overIn, goingOf, openWith, openBy, openedBy, openingIn, openTaken}
 use Rattle.right.specs.Lists.{shifted-took, shifted-length, joined-took, joined-length}
 use Rattle.right.specs.Used.{stateIn, Roomy, Takes, same-state, opening-used, over-used}
 

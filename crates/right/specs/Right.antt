@@ -42,7 +42,8 @@ use Rattle.element.specs.Element.{Elements, noFrame, frameAt}
 use Rattle.node.specs.Node.{Queue}
 use Rattle.nodes.specs.Nodes.{numbers}
 use Rattle.numbers.specs.Numbers.{Numbers, numbersOf}
-use Rattle.step.specs.Step.{OpenFits, CloseFits, refuseOpen, refuseClose, overIn, After, refusedWith, openTaken, onOpen, closeTaken, onClose, step}
+use Rattle.tally.specs.Tally.{OpenFits, CloseFits, refuseOpen, refuseClose}
+use Rattle.step.specs.Step.{overIn, After, refusedWith, openTaken, onOpen, closeTaken, onClose, step}
 use Rattle.right.specs.Used.{stateIn, Roomy, Takes, over-used}
 use Rattle.right.specs.Opens.{open-takes}
 use Rattle.right.specs.Closes.{close-takes}

@@ -1,8 +1,6 @@
 -- What one event does to the session's numbers, both lent rooms and the buffer, for all their values: the engine's own functions (crate engine, Quick) on
 -- the records in use, the others as they were.
 --
---   OpenFits n, CloseFits n   what is known of the numbers where no refusal by them applies
---   refuseOpen n, refuseClose n E x      the lowest refusal that the numbers, and for a close of x the innermost name, decide; 0 for none
 --   usedIn depth held E N     the engine's state of the records in use
 --   goingOf o                 which nodes go at the opening o
 --   Opened, openingIn P x depth held E N       an opening of x: which nodes go, and the open elements
@@ -10,24 +8,22 @@
 --   overIn P x depth held E N      an opening of x leaves more nodes waiting than there are records
 --   After, after              what an event comes to: its refusal, or 0, how many nodes were handed out, and all that was lent
 --   refusedWith r n E N out   a refusal: all as it was
---   openNumbers, closeNumbers n held given     the numbers after an open and after a close that handed out `given` nodes and after which `held` wait
 --   movedOut P depth held E N      the nodes that wait at the innermost of `depth` elements move up out of it or leave
 --   openTaken, closeTaken     an open and a close that nothing refuses;  onOpen, onClose: any open and close of x
 --   step P e n E N out        the event e
 --
--- Numbers that no calls lead to may be past every limit: an open or a close is then refused too, so that no record is left.
--- Assumes nothing. NOT here: that this is the engine's event on the state that the rooms hold (crate right).
+-- Assumes nothing. NOT here: the refusals and the numbers afterwards (crate tally); that this is the engine's event on the state that the rooms hold (crate right).
 pub mod Laws
 pub mod Left
-use Prim.Native.Nat.{ℕ, _+_, _-_, _*_, _%_, _^_, _≤_, _<_}
-use mathlib.Core.Bool.{Bool, true, false, not}
-use mathlib.Core.List.{List, [], _++_}
+use Prim.Native.Nat.{ℕ, _+_, _-_}
+use mathlib.Core.Bool.{Bool, false}
+use mathlib.Core.List.{List, _++_}
 use mir.Val.{boolByte}
 use lib.Dec.{eqb, leb, ltb}
 use lib.ListN.{length, take, drop}
 use Rattle.choice.specs.Pick.{pick}
-use Rattle.meaning.specs.Limits.{depthLimit, heldLimit, nodeLimit}
-use Rattle.meaning.specs.Refusals.{badRecord, afterEnd, wrongClose, tooDeep, tooManyNodes, tooManyHeld}
+use Rattle.meaning.specs.Limits.{heldLimit}
+use Rattle.meaning.specs.Refusals.{badRecord, tooManyHeld}
 use Rattle.records.specs.declared.Event.{Event}
 use Rattle.records.specs.declared.Event.the-variants.{Open, Close, Bad}
 use Rattle.plan.specs.Plan.{Plan}
@@ -37,33 +33,8 @@ use Rattle.elements.specs.Elements as elements
 use Rattle.node.specs.Node.{Queue}
 use Rattle.nodes.specs.declared.Going.{Going}
 use Rattle.nodes.specs.Nodes.{levelOf, Moved, movedFrom, Handed, handedOut, Joined, joined}
-use Rattle.numbers.specs.Numbers.{Numbers, numbersOf}
-
--- "3: the document element has been closed", "5: an open at depth 256", "6: an open when 16,777,215 nodes have been opened"
-unfoldable pub refuseOpen : Numbers → ℕ
-refuseOpen n =
-    pick (not (eqb (n .ended) 0)) afterEnd
-    (pick (leb depthLimit (n .depth)) tooDeep
-    (pick (leb nodeLimit (n .opened)) tooManyNodes
-    (pick (ltb heldLimit (n .held)) tooManyHeld 0)))
-
-pub record OpenFits (n : Numbers) : Type 0 where
-  pub deep : n .depth < depthLimit
-  pub few : n .opened < nodeLimit
-  pub held : n .held ≤ heldLimit
-
--- "3: the document element has been closed", "4: a close with nothing open, or with another name than the innermost open element"
-unfoldable pub refuseClose : Numbers → Elements → ℕ → ℕ
-refuseClose n E x =
-    pick (not (eqb (n .ended) 0)) afterEnd
-    (pick (eqb (n .depth) 0) wrongClose
-    (pick (ltb depthLimit (n .depth)) wrongClose
-    (pick (eqb (frameAt E (n .depth - 1) .name) x) (pick (ltb heldLimit (n .held)) tooManyHeld 0) wrongClose)))
-
-pub record CloseFits (n : Numbers) : Type 0 where
-  pub some : 0 < n .depth
-  pub deep : n .depth ≤ depthLimit
-  pub held : n .held ≤ heldLimit
+use Rattle.numbers.specs.Numbers.{Numbers}
+use Rattle.tally.specs.Tally.{refuseOpen, refuseClose, openNumbers, closeNumbers}
 
 unfoldable pub usedIn : ℕ → ℕ → Elements → Queue → State
 usedIn depth held E N = record { frames = take depth (E .list); queue = take held (N .list); opened = 0; handed = 0; ended = false }
@@ -108,9 +79,6 @@ refusedWith r n E N out = after r 0 n E N out
 
 -- an open, by which nodes go and what becomes of them
 
-unfoldable pub openNumbers : Numbers → ℕ → ℕ → Numbers
-openNumbers n held given = numbersOf (n .depth + 1) held (n .opened + 1) ((n .handed + given) % 2 ^ 32) 0
-
 abbrev pub openWith : Numbers → Opened → Joined → After
 openWith n o j =
     let given : ℕ = o .going .went + boolByte (o .going .all) in
@@ -129,10 +97,6 @@ onOpen P x n E N out =
     (refusedWith (refuseOpen n) n E N out)
 
 -- a close, by the nodes that still wait and how many of them go
-
-unfoldable pub closeNumbers : Numbers → ℕ → ℕ → Numbers
-closeNumbers n held given =
-    numbersOf (n .depth - 1) held (n .opened) ((n .handed + given) % 2 ^ 32) (boolByte (eqb (n .depth - 1) 0))
 
 -- where the nodes of the innermost element begin
 abbrev pub movedOutFrom : Plan → ℕ → ℕ → Elements → Queue → ℕ → Moved

@@ -6,14 +6,13 @@ ghost use lib.ListN.{length};
 ghost use Rattle.meaning.specs.Record.{eventOf};
 ghost use Rattle.meaning.specs.Limits.{depthLimit, heldLimit, outputNeeded, elementsNeeded, nodesNeeded};
 ghost use Rattle.records.specs.Read.{shown};
-ghost use Rattle.engine.specs.Quick.{over, opening};
-ghost use Rattle.plan.specs.Plan.{lastGiven, named};
+ghost use Rattle.engine.specs.Quick.{opening};
+ghost use Rattle.plan.specs.Plan.{named};
 ghost use Rattle.element.specs.Element.{elementsIn};
 ghost use Rattle.node.specs.Node.{queueIn};
 ghost use Rattle.plan_bytes.specs.Kept.{planRoom, keptIn};
 ghost use Rattle.numbers.specs.Numbers.{numbersRoom, numbersIn};
-ghost use Rattle.step.specs.Step.{OpenFits, CloseFits, refuseOpen, refuseClose, openingIn, allGo, noPlace, overIn};
-ghost use Rattle.step.specs.Step.{openNumbers, closeNumbers, movedOut, after, onOpen, onClose, step};
+ghost use Rattle.step.specs.Step.{openingIn, allGo, noPlace, overIn, movedOut, after, onOpen, onClose, step};
 use nodes::Going;
 use records::Event;
 
@@ -30,51 +29,6 @@ fn refused(refusal: u8) -> Stepped
         refusal: refusal,
         given: 0,
     }
-}
-
-// The lowest refusal that the numbers decide for an open, or 0; also one for numbers past every limit, to which no calls lead.
-fn refuse_open(numbers: &[u8]) -> u8
-    requires { ⌜ length (now numbers) ≡ numbersRoom ⌝ }
-    ensures { λ r. ⌜ (r ≡ refuseOpen (numbersIn (now (numbers .entry)))) × (r ≡ 0 → OpenFits (numbersIn (now (numbers .entry)))) ⌝ }
-{
-    if numbers::get(numbers, numbers::ENDED) != 0 {
-        return limits::AFTER_END;
-    }
-    if limits::DEPTH <= numbers::get(numbers, numbers::DEPTH) as usize {
-        return limits::TOO_DEEP;
-    }
-    if limits::NODES <= numbers::get(numbers, numbers::OPENED) {
-        return limits::TOO_MANY_NODES;
-    }
-    if limits::HELD < numbers::get(numbers, numbers::HELD) as usize {
-        return limits::TOO_MANY_HELD;
-    }
-    0
-}
-
-// The same for a close of `x`.
-fn refuse_close(numbers: &[u8], elements: &[u8], x: u32) -> u8
-    requires { ⌜ (length (now numbers) ≡ numbersRoom) × (length (now elements) ≡ elementsNeeded) ⌝ }
-    ensures { λ r. ⌜ (r ≡ refuseClose (numbersIn (now (numbers .entry))) (elementsIn (now (elements .entry))) x)
-        × (r ≡ 0 → CloseFits (numbersIn (now (numbers .entry)))) ⌝ }
-{
-    if numbers::get(numbers, numbers::ENDED) != 0 {
-        return limits::AFTER_END;
-    }
-    let depth = numbers::get(numbers, numbers::DEPTH) as usize;
-    if depth == 0 {
-        return limits::WRONG_CLOSE;
-    }
-    if limits::DEPTH < depth {
-        return limits::WRONG_CLOSE;
-    }
-    if element::get(elements, depth - 1, element::NAME) != x {
-        return limits::WRONG_CLOSE;
-    }
-    if limits::HELD < numbers::get(numbers, numbers::HELD) as usize {
-        return limits::TOO_MANY_HELD;
-    }
-    0
 }
 
 // Whether all that wait go, and the new node with them.
@@ -169,43 +123,6 @@ fn full(kept: &[u8], x: u32, depth: usize, held: usize, elements: &[u8], nodes: 
     brim(kept, x, depth, held, elements, nodes)
 }
 
-// The numbers after an open that handed out `given` nodes and after which `held` wait.
-fn count_open(numbers: &mut [u8], held: u32, given: u32)
-    requires { ⌜ (length (now numbers) ≡ numbersRoom) × OpenFits (numbersIn (now numbers)) ⌝ }
-    ensures { λ r. ⌜ numbersIn (now (numbers .exit)) ≡ openNumbers (numbersIn (now (numbers .entry))) held given ⌝ }
-{
-    let depth = numbers::get(&*numbers, numbers::DEPTH);
-    let opened = numbers::get(&*numbers, numbers::OPENED);
-    let handed = numbers::get(&*numbers, numbers::HANDED);
-    numbers::write(
-        numbers,
-        depth + 1,
-        held,
-        opened + 1,
-        std::num::wrapping_add_u32(handed, given),
-        0,
-    );
-}
-
-// The same after a close.
-fn count_close(numbers: &mut [u8], held: u32, given: u32)
-    requires { ⌜ (length (now numbers) ≡ numbersRoom) × CloseFits (numbersIn (now numbers)) ⌝ }
-    ensures { λ r. ⌜ numbersIn (now (numbers .exit)) ≡ closeNumbers (numbersIn (now (numbers .entry))) held given ⌝ }
-{
-    let above = numbers::get(&*numbers, numbers::DEPTH) - 1;
-    let opened = numbers::get(&*numbers, numbers::OPENED);
-    let handed = numbers::get(&*numbers, numbers::HANDED);
-    let ended = above == 0;
-    numbers::write(
-        numbers,
-        above,
-        held,
-        opened,
-        std::num::wrapping_add_u32(handed, given),
-        ended as u32,
-    );
-}
-
 // The nodes that wait at the innermost of `depth` elements move up out of it or leave. Returns how many nodes wait.
 fn move_out(kept: &[u8], depth: usize, held: usize, elements: &[u8], nodes: &mut [u8]) -> usize
     requires { ⌜ (length (now kept) ≡ planRoom) × ((length (now elements) ≡ elementsNeeded) × (length (now nodes) ≡ nodesNeeded)) ⌝ }
@@ -238,7 +155,7 @@ fn open(
         (queueIn (now (nodes .entry))) (now (out .entry)) ⌝ }
     ensures { λ r. ⌜ 4 * r .given ≤ outputNeeded ⌝ }
 {
-    let refusal = refuse_open(&*numbers);
+    let refusal = tally::refuse_open(&*numbers);
     if refusal != 0 {
         return refused(refusal);
     }
@@ -251,7 +168,7 @@ fn open(
     let number = numbers::get(&*numbers, numbers::OPENED) + 1;
     let rest = nodes::join(go, held, number, (depth + 1) as u32, nodes, out);
     let given = go.went as u32 + go.all as u32;
-    count_open(numbers, rest as u32, given);
+    tally::count_open(numbers, rest as u32, given);
     Stepped {
         refusal: 0,
         given: given,
@@ -275,7 +192,7 @@ fn close(
         (queueIn (now (nodes .entry))) (now (out .entry)) ⌝ }
     ensures { λ r. ⌜ 4 * r .given ≤ outputNeeded ⌝ }
 {
-    let refusal = refuse_close(&*numbers, elements, x);
+    let refusal = tally::refuse_close(&*numbers, elements, x);
     if refusal != 0 {
         return refused(refusal);
     }
@@ -284,7 +201,7 @@ fn close(
     let left = move_out(kept, depth, held, elements, nodes);
     let went = nodes::front_if(left < held, kept, elements, depth - 1, &*nodes, left);
     nodes::hand_out(went, left, nodes, out);
-    count_close(numbers, (left - went) as u32, went as u32);
+    tally::count_close(numbers, (left - went) as u32, went as u32);
     Stepped {
         refusal: 0,
         given: went as u32,

@@ -1,7 +1,7 @@
 -- On a copy of the open elements, or where the new node is ruled out anyway. Assumes nothing.
 use borrow.Author.Needs.{needs}
 use native.Mathlib.Omega.{arith}
-use borrow.Author.Tests.{not-true, not-false}
+use borrow.Author.Tests.{not-true}
 use mathlib.Core.Path.{sym, _∙_}
 use Rattle.meaning.specs.Limits.Laws.{elements-is}
 use Rattle.step.specs.Step.Laws.{over-dead, over-copied}

@@ -2,7 +2,7 @@
 use borrow.Author.Needs.{needs}
 use native.Mathlib.Omega.{arith}
 use mathlib.Core.Path.{_∙_}
-use Rattle.meaning.specs.Limits.Laws.{depth-is, held-is, output-is}
+use Rattle.meaning.specs.Limits.Laws.{held-is, output-is}
 use Rattle.numbers.specs.Numbers.{numbersIn}
 use Rattle.element.specs.Element.{elementsIn}
 use Rattle.node.specs.Node.{queueIn}

@@ -1,6 +1,5 @@
 -- What each call answered, put together (Step.Laws, opening-told). Assumes nothing.
 use borrow.Author.Needs.{needs}
-use native.Mathlib.Omega.{arith}
 use Rattle.meaning.specs.Limits.{depthLimit}
 use Rattle.step.specs.Step.Laws.{opening-told}
 use Rattle.step.proofs.opening.Statement.{statement}

@@ -1,7 +1,6 @@
 -- One case for each kind of event. Assumes nothing.
 use borrow.Author.Needs.{needs}
-use native.Mathlib.Omega.{arith}
-use mathlib.Core.Path.{refl, sym, _∙_}
+use mathlib.Core.Path.{sym, _∙_}
 use Rattle.numbers.specs.Numbers.{numbersIn}
 use Rattle.element.specs.Element.{elementsIn}
 use Rattle.node.specs.Node.{queueIn}

@@ -5,11 +5,11 @@
 --   copy-step, copy-done    one byte more is copied; all are
 --   open-refused, open-full, open-done      an open that its numbers refuse; refusal 7; one that is taken
 --   close-refused, close-done               a close that is refused; one that is taken
---   move-told, count-open, count-close      the nodes of the innermost element; the numbers afterwards
+--   move-told               the nodes of the innermost element
 --   step-read-as            any event, by how its bytes were read
 --
 -- What is large is given explicitly. Assumes nothing.
-use Prim.Native.Nat.{ℕ, _+_, _-_, _*_, _%_, _^_, _≤_, _<_}
+use Prim.Native.Nat.{ℕ, _+_, _-_, _*_, _≤_, _<_}
 use native.Mathlib.Numerals.{add-one}
 use native.Mathlib.Omega.{arith}
 use mathlib.Core.Path.{_≡_, refl, sym, ap, ap₂, _∙_}
@@ -19,11 +19,11 @@ use mir.Val.{boolByte}
 use lib.Dec.{eqb, leb, ltb}
 use lib.ListN.{length, getD, set, take, drop, take-append-drop}
 use lib.Seq.{take-suc, take-suc-set, take-all, take-at, length-take-le}
-use borrow.Author.Tests.{eq-eqb, ne-eqb, le-leb, lt-leb, lt-ltb, le-ltb, leb-false}
+use borrow.Author.Tests.{eq-eqb, ne-eqb, lt-leb, leb-false}
 use Rattle.choice.specs.Pick.{pick, pick-yes, pick-no, pick-true, pick-false}
 use Rattle.meaning.specs.Record.{eventOf}
 use Rattle.meaning.specs.Refusals.{tooManyHeld}
-use Rattle.meaning.specs.Limits.{depthLimit, heldLimit, outputNeeded, elementsNeeded}
+use Rattle.meaning.specs.Limits.{depthLimit, heldLimit, outputNeeded}
 use Rattle.records.specs.declared.Event.{Event}
 use Rattle.records.specs.Read.{shown}
 use Rattle.sets.specs.Set.{meet, without}
@@ -40,12 +40,13 @@ use Rattle.node.specs.Node.{Queue, queueIn}
 use Rattle.node.specs.Node.Laws.{nodes-length}
 use Rattle.nodes.specs.declared.Going.{Going}
 use Rattle.nodes.specs.Nodes.{levelOf, Moved, movedFrom, Handed, handedOut, Joined, joined}
-use Rattle.numbers.specs.Numbers.{Numbers, numbersOf}
+use Rattle.numbers.specs.Numbers.{Numbers}
 use Rattle.step.specs.declared.Stepped.{Stepped}
-use Rattle.step.specs.Step.{refuseOpen, refuseClose, usedIn, goingOf, Opened, openedBy, openingIn, allGo, noPlace}
+use Rattle.tally.specs.Tally.{refuseOpen, refuseClose, openNumbers, closeNumbers}
+use Rattle.step.specs.Step.{usedIn, goingOf, Opened, openedBy, openingIn, allGo, noPlace}
 use Rattle.step.specs.Step.{overIn, After, after, refusedWith}
-use Rattle.step.specs.Step.{openNumbers, openWith, openBy, openTaken, onOpen}
-use Rattle.step.specs.Step.{closeNumbers, movedOutFrom, movedOut, closeWith, closeOut, closeBy, closeTaken, onClose, step}
+use Rattle.step.specs.Step.{openWith, openBy, openTaken, onOpen}
+use Rattle.step.specs.Step.{movedOutFrom, movedOut, closeWith, closeOut, closeBy, closeTaken, onClose, step}
 
 -- an opening
 
@@ -203,45 +204,6 @@ pub over-copied :
 over-copied P x depth held bs trial ns deep few c go E₁ r e er =
     over-told P x depth held trial ns deep few go E₁ r e er ∙ ap (λ b. overIn P x depth held (elementsIn b) (queueIn ns)) c
 
--- the tests of numbers, by what was read
-
-module _ (read v : ℕ) (e : read ≡ v) where
-  pub ended-yes : (read ≡ 0 → ⊥) → not (eqb v 0) ≡ true
-  ended-yes d = ap not (ne-eqb v 0 (λ z. d (e ∙ z)))
-
-  pub ended-no : read ≡ 0 → not (eqb v 0) ≡ false
-  ended-no z = ap not (eq-eqb v 0 (sym e ∙ z))
-
-  pub none-yes : read ≡ 0 → eqb v 0 ≡ true
-  none-yes z = eq-eqb v 0 (sym e ∙ z)
-
-  pub none-no : (read ≡ 0 → ⊥) → eqb v 0 ≡ false
-  none-no d = ne-eqb v 0 (λ z. d (e ∙ z))
-
-  pub at-least : (n : ℕ) → n ≤ read → leb n v ≡ true
-  at-least n h = le-leb n v (omega arith)
-
-  pub less : (n : ℕ) → read < n → leb n v ≡ false
-  less n h = lt-leb n v (omega arith)
-
-  pub past : (n : ℕ) → n < read → ltb n v ≡ true
-  past n h = lt-ltb n v (omega arith)
-
-  pub within : (n : ℕ) → read ≤ n → ltb n v ≡ false
-  within n h = le-ltb n v (omega arith)
-
--- the innermost name
-
-module _ (n : Numbers) (E : Elements) (x depth name : ℕ) (ed : depth ≡ n .depth) (en : name ≡ frameAt E (depth - 1) .name) where
-  read : name ≡ frameAt E (n .depth - 1) .name
-  read = en ∙ ap (λ d. frameAt E (d - 1) .name) ed
-
-  pub name-other : (name ≡ x → ⊥) → eqb (frameAt E (n .depth - 1) .name) x ≡ false
-  name-other d = ne-eqb _ _ (λ e. d (read ∙ e))
-
-  pub name-same : name ≡ x → eqb (frameAt E (n .depth - 1) .name) x ≡ true
-  name-same e = eq-eqb _ _ (sym read ∙ e)
-
 -- a copy
 
 module _ (xs ys : List ℕ) (same : length ys ≡ length xs) (i : ℕ) where
@@ -320,24 +282,6 @@ pub move-told :
 unfolding movedOut
 move-told P depth held E N met ready from w em ea ef ew =
     ew ∙ ap₂ (λ a b. movedFrom P a b (depth - 1) held from from N) em ea ∙ ap (movedOutFrom P depth held E N) ef
-
--- the numbers
-
-module _ (n : Numbers) (held given depth opened handed sum : ℕ) (ed : depth ≡ n .depth) (eo : opened ≡ n .opened) (eh : handed ≡ n .handed)
-    (es : sum ≡ (handed + given) % 2 ^ 32) where
-  total : sum ≡ (n .handed + given) % 2 ^ 32
-  total = es ∙ ap (λ h. (h + given) % 2 ^ 32) eh
-
-  pub count-open : (n′ : Numbers) → n′ ≡ numbersOf (depth + 1) held (opened + 1) sum 0 → n′ ≡ openNumbers n held given
-  unfolding openNumbers
-  count-open n′ e = e ∙ ap₂ (λ d o. numbersOf (d + 1) held (o + 1) sum 0) ed eo ∙ ap (λ s. numbersOf (n .depth + 1) held (n .opened + 1) s 0) total
-
-  pub count-close :
-      (n′ : Numbers) → n′ ≡ numbersOf (depth - 1) held opened sum (boolByte (eqb (depth - 1) 0)) → n′ ≡ closeNumbers n held given
-  unfolding closeNumbers
-  count-close n′ e =
-      e ∙ ap₂ (λ d o. numbersOf (d - 1) held o sum (boolByte (eqb (d - 1) 0))) ed eo
-      ∙ ap (λ s. numbersOf (n .depth - 1) held (n .opened) s (boolByte (eqb (n .depth - 1) 0))) total
 
 -- any event, by how its bytes were read
 pub step-read-as :

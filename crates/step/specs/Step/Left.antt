@@ -11,13 +11,15 @@ use mathlib.Core.List.{List}
 use lib.Dec.{eqb}
 use Rattle.choice.specs.Pick.{pick-either}
 use Rattle.choice.specs.Count.{boolByte-le}
+use Rattle.meaning.specs.Refusals.{badRecord, tooManyHeld}
 use Rattle.records.specs.declared.Event.{Event}
 use Rattle.records.specs.declared.Event.the-variants.{Open, Close, Bad}
 use Rattle.plan.specs.Plan.{Plan}
 use Rattle.element.specs.Element.{Elements}
 use Rattle.node.specs.Node.{Queue}
 use Rattle.numbers.specs.Numbers.{Numbers}
-use Rattle.step.specs.Step.{refuseOpen, refuseClose, overIn, After, refusedWith, openNumbers, openTaken, onOpen, closeNumbers, closeTaken, onClose, step}
+use Rattle.tally.specs.Tally.{refuseOpen, refuseClose, openNumbers, closeNumbers}
+use Rattle.step.specs.Step.{overIn, After, refusedWith, openTaken, onOpen, closeTaken, onClose, step}
 
 module _ (P : Plan) (n : Numbers) (E : Elements) (N : Queue) (out : List ℕ) where
   Kept : After → Type 0
@@ -39,9 +41,9 @@ module _ (P : Plan) (n : Numbers) (E : Elements) (N : Queue) (out : List ℕ) wh
   unfolding step onOpen onClose
   kept-step (Open x) =
       pick-either Kept (eqb (refuseOpen n) 0) _ _
-      (pick-either Kept (overIn P x (n .depth) (n .held) E N) _ _ (kept-refused 7) (kept-open x)) (kept-refused (refuseOpen n))
+      (pick-either Kept (overIn P x (n .depth) (n .held) E N) _ _ (kept-refused tooManyHeld) (kept-open x)) (kept-refused (refuseOpen n))
   kept-step (Close x) = pick-either Kept (eqb (refuseClose n E x) 0) _ _ kept-close (kept-refused (refuseClose n E x))
-  kept-step Bad = kept-refused 2
+  kept-step Bad = kept-refused badRecord
 
   pub refused-same :
       (e : Event) (a : After) → a ≡ step P e n E N out → (a .refusal ≡ 0 → ⊥) → a ≡ refusedWith (a .refusal) n E N out
@@ -72,6 +74,6 @@ module _ (P : Plan) (n : Numbers) (E : Elements) (N : Queue) (out : List ℕ) (s
   unfolding step onOpen onClose Said
   ended-said (Open x) =
       pick-either Said (eqb (refuseOpen n) 0) _ _
-      (pick-either Said (overIn P x (n .depth) (n .held) E N) _ _ (said-refused 7) (said-open x)) (said-refused (refuseOpen n))
+      (pick-either Said (overIn P x (n .depth) (n .held) E N) _ _ (said-refused tooManyHeld) (said-open x)) (said-refused (refuseOpen n))
   ended-said (Close x) = pick-either Said (eqb (refuseClose n E x) 0) _ _ said-close (said-refused (refuseClose n E x))
   ended-said Bad = said

@@ -1,15 +1,14 @@
 -- Test by test as its model; where none applies the numbers fit. Assumes nothing.
 use borrow.Author.Needs.{needs}
 use native.Mathlib.Omega.{arith}
-use mathlib.Core.Path.{refl, sym, _∙_}
+use mathlib.Core.Path.{refl}
 use Rattle.choice.specs.Pick.{pick-yes, pick-no}
-use native.Mathlib.Nat.{lt-of-le-of-lt}
 use Rattle.meaning.specs.Limits.{nodeLimit}
 use Rattle.meaning.specs.Limits.Laws.{depth-is, held-is, node-limit-is}
-use Rattle.step.specs.Step.{refuseOpen}
-use Rattle.step.specs.Step.Laws.{ended-yes, ended-no, none-yes, none-no, at-least, less, past, within, name-other, name-same}
-use Rattle.step.proofs.refuse_open.Statement.{statement}
-use Rattle.step.proofs.refuse_open.Tie as tie
+use Rattle.tally.specs.Tally.{refuseOpen}
+use Rattle.tally.proofs.Tests.{ended-yes, ended-no, at-least, less, past, within}
+use Rattle.tally.proofs.refuse_open.Statement.{statement}
+use Rattle.tally.proofs.refuse_open.Tie as tie
 
 get-requires : tie.Need-get-requires
 get-requires c κs = search needs

@@ -1,18 +1,17 @@
 -- Test by test as its model; where none applies the numbers fit. Assumes nothing.
 use borrow.Author.Needs.{needs}
 use native.Mathlib.Omega.{arith}
-use mathlib.Core.Path.{refl, sym, _∙_}
+use mathlib.Core.Path.{refl, _∙_}
 use Rattle.choice.specs.Pick.{pick-yes, pick-no}
-use native.Mathlib.Nat.{lt-of-le-of-lt}
 use Rattle.choice.specs.Count.{positive}
 use Rattle.meaning.specs.Limits.{depthLimit, heldLimit}
 use Rattle.meaning.specs.Limits.Laws.{depth-is, held-is}
 use Rattle.element.specs.Element.{elementsIn}
 use Rattle.numbers.specs.Numbers.{numbersIn}
-use Rattle.step.specs.Step.{refuseClose}
-use Rattle.step.specs.Step.Laws.{ended-yes, ended-no, none-yes, none-no, at-least, less, past, within, name-other, name-same}
-use Rattle.step.proofs.refuse_close.Statement.{statement}
-use Rattle.step.proofs.refuse_close.Tie as tie
+use Rattle.tally.specs.Tally.{refuseClose}
+use Rattle.tally.proofs.Tests.{ended-yes, ended-no, none-yes, none-no, past, within, name-other, name-same}
+use Rattle.tally.proofs.refuse_close.Statement.{statement}
+use Rattle.tally.proofs.refuse_close.Tie as tie
 
 get-requires : tie.Need-get-requires
 get-requires c κs = search needs
