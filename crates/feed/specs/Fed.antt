@@ -27,7 +27,7 @@ use Rattle.meaning.specs.Limits.{outputNeeded}
 
 pub record Came (S : Type 0) : Type 0 where
   pub refusal : ℕ
-  pub given : ℕ
+  pub listed : ℕ
   pub seat : S
   pub out : List ℕ
 
@@ -43,7 +43,7 @@ module _ {S : Type 0} where
   none s out = record { seat = s; taken = 0; listed = 0; refusal = 0; out = out }
 
   abbrev pub one : Came S → Fed S
-  one c = record { seat = c .seat; taken = boolByte (eqb (c .refusal) 0); listed = c .given; refusal = c .refusal; out = c .out }
+  one c = record { seat = c .seat; taken = boolByte (eqb (c .refusal) 0); listed = c .listed; refusal = c .refusal; out = c .out }
 
   -- a list record is 4 bytes
   unfoldable pub andThen : Fed S → Fed S → Fed S
@@ -63,7 +63,7 @@ module _ {S : Type 0} where
     fed (suc n) s es out =
         let c : Came S = take-one s (take 8 es) out in
         pick (ltb (length out) outputNeeded) (none s out)
-        (pick (eqb (c .refusal) 0) (andThen (one c) (fed n (c .seat) (drop 8 es) (drop (4 * c .given) (c .out)))) (one c))
+        (pick (eqb (c .refusal) 0) (andThen (one c) (fed n (c .seat) (drop 8 es) (drop (4 * c .listed) (c .out)))) (one c))
 
     unfoldable pub resumed : ℕ → List ℕ → Fed S → Fed S
     resumed n es r =

@@ -39,13 +39,13 @@ abbrev pub seat : Numbers → List ℕ → List ℕ → Seat
 seat n E N = record { numbers = n; elements = E; nodes = N }
 
 abbrev pub came : ℕ → ℕ → Seat → List ℕ → Came Seat
-came refusal given s out = record { refusal = refusal; given = given; seat = s; out = out }
+came refusal listed s out = record { refusal = refusal; listed = listed; seat = s; out = out }
 
 -- "A refused call leaves the lent room as it was, too"
 unfoldable pub cameTo : Seat → List ℕ → After → Came Seat
 cameTo s out a =
     pick (eqb (a .refusal) 0)
-    (came 0 (a .given) (seat (a .numbers) (laid element.shape (a .elements)) (laid node.shape (a .nodes))) (a .out))
+    (came 0 (a .listed) (seat (a .numbers) (laid element.shape (a .elements)) (laid node.shape (a .nodes))) (a .out))
     (came (a .refusal) 0 s out)
 
 unfoldable pub stepAt : Plan → Seat → List ℕ → List ℕ → Came Seat

@@ -65,7 +65,7 @@ pub fn feed(
             &mut out[from..],
         );
         refusal = r.refusal;
-        listed += r.given as usize;
+        listed += r.listed as usize;
         taken += (refusal == 0) as usize;
     }
     Fed {

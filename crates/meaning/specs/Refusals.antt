@@ -3,7 +3,7 @@
 --   shortOutput, badRecord, afterEnd, wrongClose, tooDeep, tooManyNodes, tooManyHeld, shortRoom      an event's
 --   unfinished                finish's
 --   badLength, badStep        the query's (crate query)
---   place r                   where refusal r comes among the refusals: of those that apply, the one with the lowest place is given
+--   rank r                    where refusal r comes among the refusals: of those that apply, the one with the lowest rank is given
 --
 -- Assumes nothing. NOT here: when each applies (Answer), the limits (Limits), the order in plain words (Refusals.Laws).
 pub mod Laws
@@ -56,9 +56,9 @@ abbrev pub shortRoom : ℕ
 shortRoom = 15
 
 -- "The lowest number that applies is given", but that 15 "comes directly after 1 and before all others": between 1, at 2, and 2, at 4
-unfoldable pub placeIf : Bool → ℕ → ℕ
-placeIf true r = 3
-placeIf false r = 2 * r
+unfoldable pub rankIf : Bool → ℕ → ℕ
+rankIf true r = 3
+rankIf false r = 2 * r
 
-unfoldable pub place : ℕ → ℕ
-place r = placeIf (eqb r shortRoom) r
+unfoldable pub rank : ℕ → ℕ
+rank r = rankIf (eqb r shortRoom) r

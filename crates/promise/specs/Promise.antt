@@ -59,7 +59,7 @@ use Rattle.numbers.specs.Numbers.{Numbers}
 use Rattle.step.specs.Step.{After, refusedWith}
 use Rattle.right.specs.Used.{stateIn, same-state}
 use Rattle.right.specs.Right as right
-use Rattle.right.specs.Right.{Stands, Within, newly, StepOwed, refuses, takes, stands-begun, step-right}
+use Rattle.right.specs.Right.{Stands, InLimits, newly, StepOwed, refuses, takes, stands-begun, step-right}
 use Rattle.right.specs.Right.{ended-read, opened-read, handed-read, held-read, waiting-read}
 use Rattle.right.specs.Small.{named-stream}
 use Rattle.right.specs.Rooms.{StandsIn, stands-lent, stands-laid}
@@ -68,11 +68,11 @@ use Rattle.feed.specs.Steps.{Seat, seat, cameTo, stepAt}
 use Rattle.session.specs.declared.Session.{Session}
 use Rattle.session.specs.declared.Begun as given
 use Rattle.session.specs.declared.Start.the-variants as started
-use Rattle.session.specs.declared.Step.{Step}
+use Rattle.session.specs.declared.Next.{Next}
 use Rattle.session.specs.declared.Answer.the-variants.{Refused, Taken}
 use Rattle.session.specs.declared.Finish as finishing
 use Rattle.session.specs.declared.Finish.the-variants as finish-cases
-use Rattle.session.specs.Begin.{fresh, said, Begun, answerOf, sessionFor, begun, BeginGives}
+use Rattle.session.specs.Begin.{fresh, said, Begun, startAnswer, sessionFor, begun, BeginGives}
 use Rattle.session.specs.Event.{Done, refused, sessionNumbers, withNumbers, settled, within, beside, event, EventGives, finish, FinishGives}
 use Rattle.session.specs.Event.Laws.{event-is}
 use Rattle.session.specs.Run.{Housed, housed}
@@ -94,7 +94,7 @@ unfoldable pub leftBy : Housed → List ℕ → List ℕ → Session → List �
 leftBy l E N s E′ N′ = pick (tooSmall (length E) (length N)) (housed s (l .elements) (l .nodes)) (housed s E′ N′)
 
 -- within the limits the lent records have room
-within-limits : (q : Query) → T (admits q) → length q ≤ 32 → (es : List Event) → Bounded q es → Within q (document es)
+within-limits : (q : Query) → T (admits q) → length q ≤ 32 → (es : List Event) → Bounded q es → InLimits q (document es)
 within-limits q ok small es w =
     record {
       admitted = ok;
@@ -201,7 +201,7 @@ module _ {b : List ℕ} {es : List Event} {l : Housed} (o : Of b es l) (bytes E 
     abbrev doneTaken : After → Done
     doneTaken a =
         record {
-          answer = Taken (a .given);
+          answer = Taken (a .listed);
           session = withNumbers (l .session) (a .numbers);
           elements = laid element.shape (a .elements) ++ drop elementsNeeded E;
           nodes = laid node.shape (a .nodes) ++ drop nodesNeeded N;
@@ -252,7 +252,7 @@ module _ {b : List ℕ} {es : List Event} {l : Housed} (o : Of b es l) (bytes E 
         let ns : List ℕ = newly q (document es) (meaning.actIf (eventOf bytes) (document es)) in
         let small : Nodes ns = handed-nodes f in
         record {
-          answered = ap (told (Taken (a .given))) (t .written) ∙ told-buffer (a .given) ns out (t .given) small;
+          answered = ap (told (Taken (a .listed))) (t .written) ∙ told-buffer (a .listed) ns out (t .listed) small;
           next = taken-of a t f;
           written = t .written;
         }
@@ -293,7 +293,7 @@ module _ {b : List ℕ} {es : List Event} {l : Housed} (o : Of b es l) (bytes E 
           ltb (length out) outputNeeded ≡ false → tooSmall (length E) (length N) ≡ true → first (refusals q (document es) c) ≡ some shortRoom
       first-fifteen f t = ap₂ (λ (x y : Bool). firstOr x shortOutput (firstOr y shortRoom rest)) f t
 
-  module _ (r : Step) (E′ N′ out′ : List ℕ) (g : EventGives (l .session) bytes E N out r E′ N′ out′) where
+  module _ (r : Next) (E′ N′ out′ : List ℕ) (g : EventGives (l .session) bytes E N out r E′ N′ out′) where
     pub event-given :
         Given (first (refusals q (document es) c)) (record { answer = r .answer; session = r .session; elements = E′; nodes = N′; out = out′ })
     event-given = subst (Given (first (refusals q (document es) c))) (sym (event-is (l .session) bytes E N out r E′ N′ out′ g)) event-owed
@@ -351,16 +351,16 @@ module _ {b : List ℕ} {es : List Event} {l : Housed} (o : Of b es l) where
 
 -- begin
 
-pub begin-answer : (b E N : List ℕ) (r : given.Begun) → BeginGives b E N r → said (r .answer) ≡ answerOf b E N
+pub begin-answer : (b E N : List ℕ) (r : given.Begun) → BeginGives b E N r → said (r .answer) ≡ startAnswer b E N
 unfolding begun
 begin-answer b E N r g = ap (λ (x : Begun). x .answer) g
 
-pub begin-session : (b E N : List ℕ) (r : given.Begun) → BeginGives b E N r → r .session ≡ sessionFor (answerOf b E N) b
+pub begin-session : (b E N : List ℕ) (r : given.Begun) → BeginGives b E N r → r .session ≡ sessionFor (startAnswer b E N) b
 unfolding begun
 begin-session b E N r g = ap (λ (x : Begun). x .session) g
 
 pub begin-admitted : (b E N : List ℕ) (r : given.Begun) → BeginGives b E N r → r .answer ≡ started.Begun → answerTo b ≡ checked.admitted
-unfolding answerOf said
+unfolding startAnswer said
 begin-admitted b E N r g told-so =
     pick-known (λ (a : checked.Answer). a ≡ checked.admitted → answerTo b ≡ checked.admitted) (tooSmall (length E) (length N)) _ _
     (λ t e. let z : _≡_ {A = ℕ} 0 1 = cc in absurd (omega arith)) (λ f e. e)

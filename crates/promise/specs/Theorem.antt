@@ -6,7 +6,7 @@
 --                           the rest of it is anything. Room that is too small is not touched, so the records stay where they were (leftBy)
 --   Reached b us rs l       begin admitted the bytes b, and its session was used so: l is a session and room that calls reach
 --   callOf, answerOf        a use as a call of the meaning; a reply as document 01's answer (`told`, `ended`)
---   recordsIn r             the bytes of the list records at the start of the buffer that a reply left;  recordsBy a out: the same, by the answer a
+--   writtenIn r             the bytes of the list records at the start of the buffer that a reply left;  recordsBy a out: the same, by the answer a
 --   streamOf b us           the accepted events;  nodesOf rs: the nodes that the list records in the buffers name;  waiting l: the nodes waiting in l
 --   Begins b E N r          what is promised of begin's result r for the bytes b and the room E and N
 --   Promised b us rs l      what is promised of the replies rs, of the session and of its room, after each of the uses (`first-part`)
@@ -52,7 +52,7 @@ use Rattle.nodes.specs.Nodes.{numbers}
 use Rattle.session.specs.declared.Session.{Session}
 use Rattle.session.specs.declared.Begun.{Begun}
 use Rattle.session.specs.declared.Start.the-variants as started
-use Rattle.session.specs.declared.Step.{Step}
+use Rattle.session.specs.declared.Next.{Next}
 use Rattle.session.specs.declared.Finish.{Finish}
 use Rattle.session.specs.declared.Answer as event-answer
 use Rattle.session.specs.declared.Answer.the-variants.{Refused, Taken}
@@ -68,13 +68,13 @@ pub data Use : Type 0 where
   ask : Use
 
 pub data Reply : Type 0 where
-  stepped : (r : Step) (E N out : List ℕ) → Reply
+  stepped : (r : Next) (E N out : List ℕ) → Reply
   finish : (f : Finish) → Reply
 
 pub data Played : Housed → List Use → List Reply → Housed → Type 0 where
   unused : {l : Housed} → Played l [] [] l
   by-event :
-      {l k : Housed} {bytes E N out E′ N′ out′ : List ℕ} {r : Step} {us : List Use} {rs : List Reply} →
+      {l k : Housed} {bytes E N out E′ N′ out′ : List ℕ} {r : Next} {us : List Use} {rs : List Reply} →
       (tooSmall (length E) (length N) ≡ false → SameUsed l E N) → EventGives (l .session) bytes E N out r E′ N′ out′ →
       Played (leftBy l E N (r .session) E′ N′) us rs k → Played l (offer bytes E N out ∷ us) (stepped r E′ N′ out′ ∷ rs) k
   by-finish :
@@ -103,9 +103,9 @@ unfoldable pub recordsBy : event-answer.Answer → List ℕ → List ℕ
 recordsBy (Refused n) out = []
 recordsBy (Taken k) out = take (4 * k) out
 
-unfoldable pub recordsIn : Reply → List ℕ
-recordsIn (stepped r E N out) = recordsBy (r .answer) out
-recordsIn (finish f) = []
+unfoldable pub writtenIn : Reply → List ℕ
+writtenIn (stepped r E N out) = recordsBy (r .answer) out
+writtenIn (finish f) = []
 
 abbrev pub streamOf : List ℕ → List Use → List Event
 streamOf b us = accepted (decode b) [] (map callOf us)
@@ -131,7 +131,7 @@ pub record Promised (b : List ℕ) (us : List Use) (rs : List Reply) (l : Housed
   pub stream : Stream (streamOf b us)
   -- the list records found in the buffers, put together, are those of the nodes read from them, and these are the list: in document order, each node once,
   -- certain, nothing undecided before
-  pub recorded : flatMap recordsIn rs ≡ recordsOf (nodesOf rs)
+  pub recorded : flatMap writtenIn rs ≡ recordsOf (nodesOf rs)
   pub order : Rising 1 (nodesOf rs)
   pub listed : (n : ℕ) → List·Memᴰ n (nodesOf rs) ↔ ListedBy (decode b) (streamOf b us) n
   -- the nodes waiting are the held ones
@@ -150,12 +150,12 @@ pub record Promised (b : List ℕ) (us : List Use) (rs : List Reply) (l : Housed
       T (finished (document (streamOf b us))) → (n : ℕ) → List·Memᴰ n (nodesOf rs) ↔ Selected (decode b) sure-reading (document (streamOf b us)) n
   -- a taken event leaves all of the buffer behind its list records
   pub rest-same :
-      (bytes E N out E′ N′ out′ : List ℕ) (r : Step) (k : ℕ) → (tooSmall (length E) (length N) ≡ false → SameUsed l E N) →
+      (bytes E N out E′ N′ out′ : List ℕ) (r : Next) (k : ℕ) → (tooSmall (length E) (length N) ≡ false → SameUsed l E N) →
       EventGives (l .session) bytes E N out r E′ N′ out′ → r .answer ≡ Taken k → drop (4 * k) out′ ≡ drop (4 * k) out
 
 -- an event on any session and any room: a refused one gives back the session and every byte of the room and of the buffer; the bytes of the room past the
 -- needed ones are never touched
-pub record Same (s : Session) (bytes E N out : List ℕ) (r : Step) (E′ N′ out′ : List ℕ) : Type 0 where
+pub record Same (s : Session) (bytes E N out : List ℕ) (r : Next) (E′ N′ out′ : List ℕ) : Type 0 where
   pub refused-same : (n : ℕ) → r .answer ≡ Refused n → (r .session ≡ s) × ((E′ ≡ E) × ((N′ ≡ N) × (out′ ≡ out)))
   pub past-same : (drop elementsNeeded E′ ≡ drop elementsNeeded E) × (drop nodesNeeded N′ ≡ drop nodesNeeded N)
   -- 1 exactly when the buffer is too short, 15 exactly when a room is too small and 1 does not apply
@@ -167,7 +167,7 @@ pub record Same (s : Session) (bytes E N out : List ℕ) (r : Step) (E′ N′ o
 pub data Offered : (es E N out : List ℕ) → List Use → List Reply → (A B : List ℕ) → Type 0 where
   no-more : {es E N out : List ℕ} → Offered es E N out [] [] E N
   one-more :
-      {es E N out E′ N′ out′ A B : List ℕ} {r : Step} {us : List Use} {rs : List Reply} → 8 ≤ length es → outputNeeded ≤ length out →
+      {es E N out E′ N′ out′ A B : List ℕ} {r : Next} {us : List Use} {rs : List Reply} → 8 ≤ length es → outputNeeded ≤ length out →
       Offered (drop 8 es) E′ N′ (drop (length (recordsBy (r .answer) out′)) out′) us rs A B →
       Offered es E N out (offer (take 8 es) E N out ∷ us) (stepped r E′ N′ out′ ∷ rs) A B
 
@@ -201,7 +201,7 @@ pub record Library : Type 0 where
       (tooSmall (length E) (length N) ≡ false → SameUsed l E N) → (r : Ran) (A B out′ : List ℕ) → RunGives (l .session) es E N out r A B out′ →
       Block b us rs l es E N out r A B out′
   pub same :
-      (s : Session) (bytes E N out : List ℕ) (r : Step) (E′ N′ out′ : List ℕ) → EventGives s bytes E N out r E′ N′ out′ →
+      (s : Session) (bytes E N out : List ℕ) (r : Next) (E′ N′ out′ : List ℕ) → EventGives s bytes E N out r E′ N′ out′ →
       Same s bytes E N out r E′ N′ out′
   -- so it is after each of the uses: a first part of them is a sequence of uses too
   pub first-part :
@@ -210,7 +210,7 @@ pub record Library : Type 0 where
   -- every call has a result, whatever it is given, so that any sequence of uses goes on; and it has one list of replies
   pub some-begin : (b E N : List ℕ) → (r : Begun) × BeginGives b E N r
   pub some-event :
-      (s : Session) (bytes E N out : List ℕ) → (r : Step) × (E′ : List ℕ) × (N′ : List ℕ) × (out′ : List ℕ) × EventGives s bytes E N out r E′ N′ out′
+      (s : Session) (bytes E N out : List ℕ) → (r : Next) × (E′ : List ℕ) × (N′ : List ℕ) × (out′ : List ℕ) × EventGives s bytes E N out r E′ N′ out′
   pub some-finish : (s : Session) → (f : Finish) × FinishGives s f
   pub some-run :
       (s : Session) (es E N out : List ℕ) → (r : Ran) × (A : List ℕ) × (B : List ℕ) × (out′ : List ℕ) × RunGives s es E N out r A B out′

@@ -10,7 +10,7 @@ pub extern "C" fn compassflare_check(bytes: &[u8]) -> u32
     let answer = query::check(bytes);
     match answer {
         QueryAnswer::Admitted => 0,
-        QueryAnswer::BadLength => 9,
-        QueryAnswer::BadStep(k) => 10 + 256 * (k as u32),
+        QueryAnswer::BadLength => limits::BAD_LENGTH as u32,
+        QueryAnswer::BadStep(k) => limits::BAD_STEP as u32 + 256 * (k as u32),
     }
 }

@@ -185,7 +185,7 @@ module _ (P : Plan) (n : Numbers) (E : Elements) (N : Queue) (room : Roomy E N) 
               same-state refl (shifted-took Q went left (omega (arith, Q-length, left-few, fits .held)) went-few ∙ ap (drop went) Q-took) refl handed-is
               (boolByte-read (eqb (n .depth - 1) 0)
               ∙ ap (λ k. eqb k 0) (sym (length-take-le (n .depth - 1) (E .list) (omega (arith, fits .deep, room .elements)))));
-          given = sym gone ∙ sym (length-map (take went waiting) (λ v. v .node));
+          listed = sym gone ∙ sym (length-map (take went waiting) (λ v. v .node));
           written = ap (λ l. buffer (numbers l) out) (sym (take-take went left (Q .list) went-few) ∙ ap (take went) Q-took);
           roomy =
               record {

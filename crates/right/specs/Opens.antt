@@ -143,15 +143,15 @@ module _ (P : Plan) (x : ℕ) (n : Numbers) (E : Elements) (N : Queue) (out : Li
       subst (λ v. Ends (take (n .held) (N .list)) v out (o .all) (o .joins) (o .went) j) new-is
       (join-ends N (n .held) (room .nodes) (fits .held) (n .opened + 1) (n .depth + 1) out (o .all) (o .joins) (o .went) went-few all-whole has-room)
 
-  given-is : o .went + boolByte (o .all) ≡ length (outAfter (o .all) (take (n .held) (N .list)) (newcomer s) (o .went))
-  given-is =
+  listed-is : o .went + boolByte (o .all) ≡ length (outAfter (o .all) (take (n .held) (N .list)) (newcomer s) (o .went))
+  listed-is =
       subst (λ v. o .went + boolByte (o .all) ≡ length (outAfter (o .all) (take (n .held) (N .list)) v (o .went))) new-is
       (gone N (n .held) (room .nodes) (fits .held) (n .opened + 1) (n .depth + 1) out (o .all) (o .went) went-few all-whole)
 
   -- the counter of the nodes handed out does not wrap
   handed-is :
       (n .handed + (o .went + boolByte (o .all))) % 2 ^ 32 ≡ n .handed + length (outAfter (o .all) (take (n .held) (N .list)) (newcomer s) (o .went))
-  handed-is = mod-eq-of-lt (omega (arith, held-is, node-limit-is, went-few, boolByte-le (o .all), fits .held)) ∙ ap (λ k. n .handed + k) given-is
+  handed-is = mod-eq-of-lt (omega (arith, held-is, node-limit-is, went-few, boolByte-le (o .all), fits .held)) ∙ ap (λ k. n .handed + k) listed-is
 
   taken-is : openTaken P x n E N out ≡ openWith n (openedBy (n .depth) E o) j
   unfolding openTaken openingIn goingOf
@@ -164,7 +164,7 @@ module _ (P : Plan) (x : ℕ) (n : Numbers) (E : Elements) (N : Queue) (out : Li
         refusal = refl;
         state =
             same-state (take-at (o .frames) (drop (n .depth + 1) (E .list)) (n .depth + 1) frames-length) (ends .waits) (add-one (n .opened)) handed-is refl;
-        given = given-is ∙ sym (length-map (outAfter (o .all) (take (n .held) (N .list)) (newcomer s) (o .went)) (λ v. v .node));
+        listed = listed-is ∙ sym (length-map (outAfter (o .all) (take (n .held) (N .list)) (newcomer s) (o .went)) (λ v. v .node));
         written = ends .written;
         roomy =
             record {

@@ -1,7 +1,7 @@
 -- THE STEP IS RIGHT: on rooms that stand for a document an event comes to what the meaning owes, and the rooms then stand for the next document.
 --
 --   Stands q d n E N     the numbers n and the records E and N stand for the query q and the document d
---   Within q d           the document keeps the limits: so does every one that accepted events lead to
+--   InLimits q d           the document keeps the limits: so does every one that accepted events lead to
 --   newly q d d′         the nodes that d′ lists and d does not
 --   Taken q d d′ out a   what an event comes to that leads from d to d′
 --   StepOwed q d e n E N out o a     what the event e comes to, o being the first refusal that applies: a refusal leaves all as it was (refuses), an
@@ -54,7 +54,7 @@ pub record Stands (q : Query) (d : Doc) (n : Numbers) (E : Elements) (N : Queue)
   pub deep : n .depth ≤ depthLimit
   pub few : n .held ≤ heldLimit
 
-pub record Within (q : Query) (d : Doc) : Type 0 where
+pub record InLimits (q : Query) (d : Doc) : Type 0 where
   pub admitted : T (admits q)
   pub steps : length q ≤ 32
   pub deep : depth d ≤ depthLimit
@@ -67,7 +67,7 @@ newly q d d′ = drop (length (listed q d)) (listed q d′)
 pub record Taken (q : Query) (d d′ : Doc) (out : List ℕ) (a : After) : Type 0 where
   pub refusal : a .refusal ≡ 0
   pub stands : Stands q d′ (a .numbers) (a .elements) (a .nodes)
-  pub given : a .given ≡ length (newly q d d′)
+  pub listed : a .listed ≡ length (newly q d d′)
   pub written : a .out ≡ buffer (newly q d d′) out
 
 pub data StepOwed (q : Query) (d : Doc) (e : Option Stream.Event) (n : Numbers) (E : Elements) (N : Queue) (out : List ℕ) : Option ℕ → After → Type 0 where
@@ -139,7 +139,7 @@ taken-right q d d′ out r a t es eo =
     record {
       refusal = t .refusal;
       stands = record { state = t .state ∙ es; roomy = t .roomy; deep = t .deep; few = t .few };
-      given = t .given ∙ ap length e;
+      listed = t .listed ∙ ap length e;
       written = t .written ∙ ap (λ ns. buffer ns out) e;
     }
 
@@ -186,7 +186,7 @@ unfolding depth isOpen
 some-open (done-row f) h = absurd (h refl)
 some-open (within p x e) h = tt
 
-module _ (q : Query) (d : Doc) (w : Within q d) (n : Numbers) (E : Elements) (N : Queue) (st : Stands q d n E N) (out : List ℕ)
+module _ (q : Query) (d : Doc) (w : InLimits q d) (n : Numbers) (E : Elements) (N : Queue) (st : Stands q d n E N) (out : List ℕ)
     (lent : Lent) (wide : ltb (lent .out) outputNeeded ≡ false) (enough : tooSmall (lent .elements) (lent .nodes) ≡ false) where
   abbrev Owed : Option Stream.Event → After → Type 0
   Owed e a = StepOwed q d e n E N out (first (eventRefusals q d e lent)) a

@@ -48,7 +48,7 @@ pub record Roomy (E : Elements) (N : Queue) : Type 0 where
 pub record Takes (r : Result) (a : After) (out : List ℕ) : Type 0 where
   pub refusal : a .refusal ≡ 0
   pub state : stateIn (a .numbers) (a .elements) (a .nodes) ≡ r .state
-  pub given : a .given ≡ length (r .out)
+  pub listed : a .listed ≡ length (r .out)
   pub written : a .out ≡ buffer (r .out) out
   pub roomy : Roomy (a .elements) (a .nodes)
   pub deep : a .numbers .depth ≤ depthLimit

@@ -3,7 +3,7 @@
 --   fresh plan        the session for a plan, at the start of its stream
 --   said a            the answer that a case of `Start` stands for, in document 01's numbers: 15 where the room is too small, else the query's
 --   Begun             what begin answers, in document 01's numbers, and the session beside it
---   answerOf q E N    the answer to the bytes q with the room E and N lent
+--   startAnswer q E N    the answer to the bytes q with the room E and N lent
 --   sessionFor a q    the session beside the answer a to the query q; the blank one beside every refusal
 --   begun q E N       the answer and the session
 --   BeginGives q E N r     THE PROMISE of `begin`: r's answer, in document 01's numbers, and its session are those
@@ -42,8 +42,8 @@ pub record Begun : Type 0 where
   pub session : Session
 
 -- "15 comes directly after 1 and before all others: at the start before 9 and 10"
-unfoldable pub answerOf : List ℕ → List ℕ → List ℕ → Answer
-answerOf q E N = pick (tooSmall (length E) (length N)) (refused shortRoom) (answerTo q)
+unfoldable pub startAnswer : List ℕ → List ℕ → List ℕ → Answer
+startAnswer q E N = pick (tooSmall (length E) (length N)) (refused shortRoom) (answerTo q)
 
 -- "beside a refused query's number stands one fixed blank session": that of no steps
 unfoldable pub sessionFor : Answer → List ℕ → Session
@@ -52,7 +52,7 @@ sessionFor (refused n) q = fresh (planOf [])
 sessionFor (refusedAt n k) q = fresh (planOf [])
 
 unfoldable pub begun : List ℕ → List ℕ → List ℕ → Begun
-begun q E N = record { answer = answerOf q E N; session = sessionFor (answerOf q E N) q }
+begun q E N = record { answer = startAnswer q E N; session = sessionFor (startAnswer q E N) q }
 
 abbrev pub BeginGives : List ℕ → List ℕ → List ℕ → given.Begun → Type 0
 BeginGives q E N r = record { answer = said (r .answer); session = r .session } ≡ begun q E N

@@ -32,7 +32,7 @@ use Rattle.feed.specs.Steps.{Seat, seat, stepAt}
 use Rattle.session.specs.declared.Session.{Session}
 use Rattle.session.specs.declared.Answer.{Answer}
 use Rattle.session.specs.declared.Answer.the-variants.{Refused, Taken}
-use Rattle.session.specs.declared.Step.{Step}
+use Rattle.session.specs.declared.Next.{Next}
 use Rattle.session.specs.declared.Finish as finished
 use Rattle.session.specs.declared.Finish.the-variants as finishing
 use Rattle.session.specs.Told.{told, ended}
@@ -66,7 +66,7 @@ unfoldable pub settled : Session → List ℕ → List ℕ → List ℕ → Came
 settled s E N out c =
     pick (eqb (c .refusal) 0)
     (record {
-      answer = Taken (c .given);
+      answer = Taken (c .listed);
       session = withNumbers s (c .seat .numbers);
       elements = c .seat .elements;
       nodes = c .seat .nodes;
@@ -109,7 +109,7 @@ toldAs a s E N out = record { answer = told a out; session = s; elements = E; no
 abbrev pub toldOf : Done → ToldDone
 toldOf d = toldAs (d .answer) (d .session) (d .elements) (d .nodes) (d .out)
 
-abbrev pub EventGives : Session → List ℕ → List ℕ → List ℕ → List ℕ → Step → List ℕ → List ℕ → List ℕ → Type 0
+abbrev pub EventGives : Session → List ℕ → List ℕ → List ℕ → List ℕ → Next → List ℕ → List ℕ → List ℕ → Type 0
 EventGives s bytes E N out r E′ N′ out′ = toldAs (r .answer) (r .session) E′ N′ out′ ≡ toldOf (event s bytes E N out)
 
 -- "8: no document element yet, or it is still open"

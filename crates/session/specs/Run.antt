@@ -1,7 +1,7 @@
 -- What a block of events answers: the same as single events one after the other.
 --
 --   Housed, housed s E N         what an event is taken at: the session and the lent room
---   refusalOf a, givenOf a   an answer's refusal number, or 0, and how many nodes it hands out
+--   refusalOf a, listedOf a   an answer's refusal number, or 0, and how many nodes it hands out
 --   eventAt l bytes out      one event (Event), as what one event comes to
 --   ran r E N out            a result of `run` and all that was lent, as what a block comes to
 --   runWithin s es E N out   a block on the room that is needed, by steps (crate feed)
@@ -35,13 +35,13 @@ unfoldable pub refusalOf : Answer → ℕ
 refusalOf (Refused n) = n
 refusalOf (Taken k) = 0
 
-unfoldable pub givenOf : Answer → ℕ
-givenOf (Refused n) = 0
-givenOf (Taken k) = k
+unfoldable pub listedOf : Answer → ℕ
+listedOf (Refused n) = 0
+listedOf (Taken k) = k
 
 abbrev pub cameAs : Done → Came Housed
 cameAs d =
-    record { refusal = refusalOf (d .answer); given = givenOf (d .answer); seat = housed (d .session) (d .elements) (d .nodes); out = d .out }
+    record { refusal = refusalOf (d .answer); listed = listedOf (d .answer); seat = housed (d .session) (d .elements) (d .nodes); out = d .out }
 
 unfoldable pub eventAt : Housed → List ℕ → List ℕ → Came Housed
 eventAt l bytes out = cameAs (event (l .session) bytes (l .elements) (l .nodes) out)

@@ -30,7 +30,8 @@ pub enum Answer {
     Taken(u32),
 }
 
-pub struct Step {
+// What an event comes to: its answer, and the session that goes on.
+pub struct Next {
     pub answer: Answer,
     pub session: Session,
 }
@@ -146,7 +147,7 @@ impl Session {
     }
 
     // An event on the room that is needed, with enough of a buffer.
-    fn within(self, bytes: &[u8], elements: &mut [u8], nodes: &mut [u8], out: &mut [u8]) -> Step
+    fn within(self, bytes: &[u8], elements: &mut [u8], nodes: &mut [u8], out: &mut [u8]) -> Next
         requires { ⌜ (length (now elements) ≡ elementsNeeded) × ((length (now nodes) ≡ nodesNeeded) × (outputNeeded ≤ length (now out))) ⌝ }
         ensures { λ r. ⌜ record { answer = r .answer; session = r .session; elements = now (elements .exit); nodes = now (nodes .exit); out = now (out .exit) }
             ≡ within self (now (bytes .entry)) (now (elements .entry)) (now (nodes .entry)) (now (out .entry)) ⌝ }
@@ -156,26 +157,26 @@ impl Session {
         self.lay(&mut numbers);
         let r = step::step(&kept, bytes, &mut numbers, elements, nodes, out);
         if r.refusal != 0 {
-            return Step {
+            return Next {
                 answer: Answer::Refused(r.refusal),
                 session: self,
             };
         }
         let next = self.with(&numbers);
-        Step {
-            answer: Answer::Taken(r.given),
+        Next {
+            answer: Answer::Taken(r.listed),
             session: next,
         }
     }
 
     // Takes one event. Longer buffers are fine: their bytes past the needed ones are never touched.
-    pub fn event(self, bytes: &[u8], elements: &mut [u8], nodes: &mut [u8], out: &mut [u8]) -> Step
+    pub fn event(self, bytes: &[u8], elements: &mut [u8], nodes: &mut [u8], out: &mut [u8]) -> Next
         ensures { λ r. ⌜ EventGives self (now (bytes .entry)) (now (elements .entry)) (now (nodes .entry)) (now (out .entry)) r
             (now (elements .exit)) (now (nodes .exit)) (now (out .exit)) ⌝ }
     {
         let refusal = lent::refuse_lent(out.len(), elements.len(), nodes.len());
         if refusal != 0 {
-            return Step {
+            return Next {
                 answer: Answer::Refused(refusal),
                 session: self,
             };

@@ -3,7 +3,7 @@
 --   noSession               the answer to a session of another length, and to counts of another length: nothing changes then
 --   began q E N S           begin with the query q (crate session, Begin);  startedBy a t S: the session's bytes after the answer a
 --   took S bytes E N out    an event on the session in the bytes S (crate session, Event);  numberOf a: its answer as a number;
---                           leftBy a t S: the session's bytes after the answer a
+--                           laidBy a t S: the session's bytes after the answer a
 --   blocked S es E N out C  a block of events (crate session, Run);  movedBy n t S: the session's bytes after n events
 --   finished S C            finish (crate session, Event);  endNumber f: its answer as a number;  countedBy f C: the counts after it
 --   ExportBegins, ExportTakes, ExportRuns, ExportFinishes      THE PROMISES of `compassflare_begin`, `compassflare_event`, `compassflare_run` and
@@ -68,15 +68,15 @@ unfoldable pub numberOf : Answer → ℕ
 numberOf (Refused n) = n
 numberOf (Taken k) = 256 * k
 
-unfoldable pub leftBy : Answer → Session → List ℕ → List ℕ
-leftBy (Refused n) t S = S
-leftBy (Taken k) t S = sessionBytes t
+unfoldable pub laidBy : Answer → Session → List ℕ → List ℕ
+laidBy (Refused n) t S = S
+laidBy (Taken k) t S = sessionBytes t
 
 abbrev pub tookWith : List ℕ → Done → Took
 tookWith S d =
     record {
       number = numberOf (d .answer);
-      session = leftBy (d .answer) (d .session) S;
+      session = laidBy (d .answer) (d .session) S;
       elements = d .elements;
       nodes = d .nodes;
       out = d .out;

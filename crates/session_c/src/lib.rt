@@ -8,7 +8,7 @@ ghost use Rattle.numbers.specs.Numbers.{numbersRoom, numbersIn};
 ghost use Rattle.query_c.specs.Packed.{packed};
 ghost use Rattle.session.specs.Begin.{said};
 ghost use Rattle.session_c.specs.Laid.{sessionRoom, sessionOf, sessionIn, sessionBytes, countsRoom, countBytes};
-ghost use Rattle.session_c.specs.Exported.{startedBy, numberOf, leftBy, movedBy, endNumber, countedBy};
+ghost use Rattle.session_c.specs.Exported.{startedBy, numberOf, laidBy, movedBy, endNumber, countedBy};
 ghost use Rattle.session_c.specs.Exported.{ExportBegins, ExportTakes, ExportRuns, ExportFinishes};
 use session::Answer;
 use session::Finish;
@@ -113,7 +113,7 @@ pub extern "C" fn compassflare_begin(
 // An event's answer as a number. The session in bytes changes only where the event was taken.
 fn answer_event(answer: Answer, next: Session, room: &mut [u8]) -> u64
     requires { ⌜ length (now room) ≡ sessionRoom ⌝ }
-    ensures { λ r. ⌜ (r ≡ numberOf answer) × (now (room .exit) ≡ leftBy answer next (now (room .entry))) ⌝ }
+    ensures { λ r. ⌜ (r ≡ numberOf answer) × (now (room .exit) ≡ laidBy answer next (now (room .entry))) ⌝ }
 {
     match answer {
         Answer::Refused(n) => n as u64,

@@ -12,7 +12,8 @@
 --   openTaken, closeTaken     an open and a close that nothing refuses;  onOpen, onClose: any open and close of x
 --   step P e n E N out        the event e
 --
--- Assumes nothing. NOT here: the refusals and the numbers afterwards (crate tally); that this is the engine's event on the state that the rooms hold (crate right).
+-- Assumes nothing. NOT here: the refusals by the numbers, and the numbers afterwards (crate tally); that this is the engine's event on the state that the rooms
+-- hold (crate right).
 pub mod Laws
 pub mod Left
 use Prim.Native.Nat.{ℕ, _+_, _-_}
@@ -65,14 +66,14 @@ overIn P x depth held E N = over heldLimit (usedIn depth held E N) (opening P x 
 
 pub record After : Type 0 where
   pub refusal : ℕ
-  pub given : ℕ
+  pub listed : ℕ
   pub numbers : Numbers
   pub elements : Elements
   pub nodes : Queue
   pub out : List ℕ
 
 abbrev pub after : ℕ → ℕ → Numbers → Elements → Queue → List ℕ → After
-after refusal given n E N out = record { refusal = refusal; given = given; numbers = n; elements = E; nodes = N; out = out }
+after refusal listed n E N out = record { refusal = refusal; listed = listed; numbers = n; elements = E; nodes = N; out = out }
 
 abbrev pub refusedWith : ℕ → Numbers → Elements → Queue → List ℕ → After
 refusedWith r n E N out = after r 0 n E N out
@@ -81,8 +82,8 @@ refusedWith r n E N out = after r 0 n E N out
 
 abbrev pub openWith : Numbers → Opened → Joined → After
 openWith n o j =
-    let given : ℕ = o .going .went + boolByte (o .going .all) in
-    after 0 given (openNumbers n (j .held) given) (o .elements) (j .queue) (j .out)
+    let listed : ℕ = o .going .went + boolByte (o .going .all) in
+    after 0 listed (openNumbers n (j .held) listed) (o .elements) (j .queue) (j .out)
 
 abbrev pub openBy : Numbers → Queue → List ℕ → Opened → After
 openBy n N out o = openWith n o (joined (o .going) (n .held) (n .opened + 1) (n .depth + 1) N out)

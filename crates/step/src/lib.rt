@@ -19,15 +19,15 @@ use records::Event;
 // What an event comes to: its refusal, or 0, and how many nodes were handed out.
 pub struct Stepped {
     pub refusal: u8,
-    pub given: u32,
+    pub listed: u32,
 }
 
 fn refused(refusal: u8) -> Stepped
-    ensures { λ r. ⌜ r ≡ record { refusal = refusal; given = 0 } ⌝ }
+    ensures { λ r. ⌜ r ≡ record { refusal = refusal; listed = 0 } ⌝ }
 {
     Stepped {
         refusal: refusal,
-        given: 0,
+        listed: 0,
     }
 }
 
@@ -149,11 +149,11 @@ fn open(
 ) -> Stepped
     requires { ⌜ (length (now kept) ≡ planRoom) × (length (now numbers) ≡ numbersRoom) ⌝ }
     requires { ⌜ (length (now elements) ≡ elementsNeeded) × ((length (now nodes) ≡ nodesNeeded) × (outputNeeded ≤ length (now out))) ⌝ }
-    ensures { λ r. ⌜ after (r .refusal) (r .given) (numbersIn (now (numbers .exit))) (elementsIn (now (elements .exit)))
+    ensures { λ r. ⌜ after (r .refusal) (r .listed) (numbersIn (now (numbers .exit))) (elementsIn (now (elements .exit)))
         (queueIn (now (nodes .exit))) (now (out .exit))
         ≡ onOpen (keptIn (now (kept .entry))) x (numbersIn (now (numbers .entry))) (elementsIn (now (elements .entry)))
         (queueIn (now (nodes .entry))) (now (out .entry)) ⌝ }
-    ensures { λ r. ⌜ 4 * r .given ≤ outputNeeded ⌝ }
+    ensures { λ r. ⌜ 4 * r .listed ≤ outputNeeded ⌝ }
 {
     let refusal = tally::refuse_open(&*numbers);
     if refusal != 0 {
@@ -167,11 +167,11 @@ fn open(
     let go = opening(kept, x, depth, held, elements, &*nodes);
     let number = numbers::get(&*numbers, numbers::OPENED) + 1;
     let rest = nodes::join(go, held, number, (depth + 1) as u32, nodes, out);
-    let given = go.went as u32 + go.all as u32;
-    tally::count_open(numbers, rest as u32, given);
+    let listed = go.went as u32 + go.all as u32;
+    tally::count_open(numbers, rest as u32, listed);
     Stepped {
         refusal: 0,
-        given: given,
+        listed: listed,
     }
 }
 
@@ -186,11 +186,11 @@ fn close(
 ) -> Stepped
     requires { ⌜ (length (now kept) ≡ planRoom) × (length (now numbers) ≡ numbersRoom) ⌝ }
     requires { ⌜ (length (now elements) ≡ elementsNeeded) × ((length (now nodes) ≡ nodesNeeded) × (outputNeeded ≤ length (now out))) ⌝ }
-    ensures { λ r. ⌜ after (r .refusal) (r .given) (numbersIn (now (numbers .exit))) (elementsIn (now (elements .entry)))
+    ensures { λ r. ⌜ after (r .refusal) (r .listed) (numbersIn (now (numbers .exit))) (elementsIn (now (elements .entry)))
         (queueIn (now (nodes .exit))) (now (out .exit))
         ≡ onClose (keptIn (now (kept .entry))) x (numbersIn (now (numbers .entry))) (elementsIn (now (elements .entry)))
         (queueIn (now (nodes .entry))) (now (out .entry)) ⌝ }
-    ensures { λ r. ⌜ 4 * r .given ≤ outputNeeded ⌝ }
+    ensures { λ r. ⌜ 4 * r .listed ≤ outputNeeded ⌝ }
 {
     let refusal = tally::refuse_close(&*numbers, elements, x);
     if refusal != 0 {
@@ -204,7 +204,7 @@ fn close(
     tally::count_close(numbers, (left - went) as u32, went as u32);
     Stepped {
         refusal: 0,
-        given: went as u32,
+        listed: went as u32,
     }
 }
 
@@ -219,11 +219,11 @@ pub fn step(
 ) -> Stepped
     requires { ⌜ (length (now kept) ≡ planRoom) × (length (now numbers) ≡ numbersRoom) ⌝ }
     requires { ⌜ (length (now elements) ≡ elementsNeeded) × ((length (now nodes) ≡ nodesNeeded) × (outputNeeded ≤ length (now out))) ⌝ }
-    ensures { λ r. ⌜ after (r .refusal) (r .given) (numbersIn (now (numbers .exit))) (elementsIn (now (elements .exit)))
+    ensures { λ r. ⌜ after (r .refusal) (r .listed) (numbersIn (now (numbers .exit))) (elementsIn (now (elements .exit)))
         (queueIn (now (nodes .exit))) (now (out .exit))
         ≡ step (keptIn (now (kept .entry))) (shown (eventOf (now (bytes .entry)))) (numbersIn (now (numbers .entry))) (elementsIn (now (elements .entry)))
         (queueIn (now (nodes .entry))) (now (out .entry)) ⌝ }
-    ensures { λ r. ⌜ 4 * r .given ≤ outputNeeded ⌝ }
+    ensures { λ r. ⌜ 4 * r .listed ≤ outputNeeded ⌝ }
 {
     let event = records::read_event(bytes);
     match event {

@@ -10,17 +10,17 @@ use lib.Dec.{eqb}
 use Rattle.numbers.specs.Numbers.{Numbers, numbersOf}
 use Rattle.tally.specs.Tally.{openNumbers, closeNumbers}
 
-module _ (n : Numbers) (held given depth opened handed sum : ℕ) (ed : depth ≡ n .depth) (eo : opened ≡ n .opened) (eh : handed ≡ n .handed)
-    (es : sum ≡ (handed + given) % 2 ^ 32) where
-  total : sum ≡ (n .handed + given) % 2 ^ 32
-  total = es ∙ ap (λ h. (h + given) % 2 ^ 32) eh
+module _ (n : Numbers) (held listed depth opened handed sum : ℕ) (ed : depth ≡ n .depth) (eo : opened ≡ n .opened) (eh : handed ≡ n .handed)
+    (es : sum ≡ (handed + listed) % 2 ^ 32) where
+  total : sum ≡ (n .handed + listed) % 2 ^ 32
+  total = es ∙ ap (λ h. (h + listed) % 2 ^ 32) eh
 
-  pub count-open : (n′ : Numbers) → n′ ≡ numbersOf (depth + 1) held (opened + 1) sum 0 → n′ ≡ openNumbers n held given
+  pub count-open : (n′ : Numbers) → n′ ≡ numbersOf (depth + 1) held (opened + 1) sum 0 → n′ ≡ openNumbers n held listed
   unfolding openNumbers
   count-open n′ e = e ∙ ap₂ (λ d o. numbersOf (d + 1) held (o + 1) sum 0) ed eo ∙ ap (λ s. numbersOf (n .depth + 1) held (n .opened + 1) s 0) total
 
   pub count-close :
-      (n′ : Numbers) → n′ ≡ numbersOf (depth - 1) held opened sum (boolByte (eqb (depth - 1) 0)) → n′ ≡ closeNumbers n held given
+      (n′ : Numbers) → n′ ≡ numbersOf (depth - 1) held opened sum (boolByte (eqb (depth - 1) 0)) → n′ ≡ closeNumbers n held listed
   unfolding closeNumbers
   count-close n′ e =
       e ∙ ap₂ (λ d o. numbersOf (d - 1) held o sum (boolByte (eqb (d - 1) 0))) ed eo

@@ -3,7 +3,7 @@
 --   refuseOpen n             the lowest refusal of an open that the numbers decide; 0 for none
 --   refuseClose n E x        the same for a close of x, by the numbers and the innermost name
 --   OpenFits n, CloseFits n  what is known of the numbers where no refusal by them applies
---   openNumbers n held given, closeNumbers n held given     the numbers after an open, or a close, that handed out `given` nodes and after which `held` wait
+--   openNumbers n held listed, closeNumbers n held listed     the numbers after an open, or a close, that handed out `listed` nodes and after which `held` wait
 --
 -- Numbers that no calls lead to may be past every limit: an open or a close is then refused too, so that no record is left.
 -- Assumes nothing. NOT here: refusals 1 and 15 (crate lent), 2 and 7 (crate step).
@@ -44,8 +44,8 @@ pub record CloseFits (n : Numbers) : Type 0 where
   pub held : n .held ≤ heldLimit
 
 unfoldable pub openNumbers : Numbers → ℕ → ℕ → Numbers
-openNumbers n held given = numbersOf (n .depth + 1) held (n .opened + 1) ((n .handed + given) % 2 ^ 32) 0
+openNumbers n held listed = numbersOf (n .depth + 1) held (n .opened + 1) ((n .handed + listed) % 2 ^ 32) 0
 
 unfoldable pub closeNumbers : Numbers → ℕ → ℕ → Numbers
-closeNumbers n held given =
-    numbersOf (n .depth - 1) held (n .opened) ((n .handed + given) % 2 ^ 32) (boolByte (eqb (n .depth - 1) 0))
+closeNumbers n held listed =
+    numbersOf (n .depth - 1) held (n .opened) ((n .handed + listed) % 2 ^ 32) (boolByte (eqb (n .depth - 1) 0))

@@ -52,10 +52,10 @@ pub fn refuse_close(numbers: &[u8], elements: &[u8], x: u32) -> u8
     0
 }
 
-// The numbers after an open that handed out `given` nodes and after which `held` wait.
-pub fn count_open(numbers: &mut [u8], held: u32, given: u32)
+// The numbers after an open that handed out `listed` nodes and after which `held` wait.
+pub fn count_open(numbers: &mut [u8], held: u32, listed: u32)
     requires { ⌜ (length (now numbers) ≡ numbersRoom) × OpenFits (numbersIn (now numbers)) ⌝ }
-    ensures { λ r. ⌜ numbersIn (now (numbers .exit)) ≡ openNumbers (numbersIn (now (numbers .entry))) held given ⌝ }
+    ensures { λ r. ⌜ numbersIn (now (numbers .exit)) ≡ openNumbers (numbersIn (now (numbers .entry))) held listed ⌝ }
 {
     let depth = numbers::get(&*numbers, numbers::DEPTH);
     let opened = numbers::get(&*numbers, numbers::OPENED);
@@ -65,15 +65,15 @@ pub fn count_open(numbers: &mut [u8], held: u32, given: u32)
         depth + 1,
         held,
         opened + 1,
-        std::num::wrapping_add_u32(handed, given),
+        std::num::wrapping_add_u32(handed, listed),
         0,
     );
 }
 
 // The same after a close.
-pub fn count_close(numbers: &mut [u8], held: u32, given: u32)
+pub fn count_close(numbers: &mut [u8], held: u32, listed: u32)
     requires { ⌜ (length (now numbers) ≡ numbersRoom) × CloseFits (numbersIn (now numbers)) ⌝ }
-    ensures { λ r. ⌜ numbersIn (now (numbers .exit)) ≡ closeNumbers (numbersIn (now (numbers .entry))) held given ⌝ }
+    ensures { λ r. ⌜ numbersIn (now (numbers .exit)) ≡ closeNumbers (numbersIn (now (numbers .entry))) held listed ⌝ }
 {
     let above = numbers::get(&*numbers, numbers::DEPTH) - 1;
     let opened = numbers::get(&*numbers, numbers::OPENED);
@@ -84,7 +84,7 @@ pub fn count_close(numbers: &mut [u8], held: u32, given: u32)
         above,
         held,
         opened,
-        std::num::wrapping_add_u32(handed, given),
+        std::num::wrapping_add_u32(handed, listed),
         ended as u32,
     );
 }

@@ -5,9 +5,9 @@ ghost use Rattle.io.specs.Counts.{Counts};
 use session::Answer;
 use session::Begun;
 use session::Finish;
+use session::Next;
 use session::Session;
 use session::Start;
-use session::Step;
 
 fn say(word: &[u8]) {
     io::write_all(libc::STDOUT_FILENO, word);
@@ -46,7 +46,7 @@ fn say_nodes(records: &[u8], count: u32) {
     }
 }
 
-fn say_step(number: u64, step: Step, out: &[u8]) {
+fn say_step(number: u64, step: Next, out: &[u8]) {
     let answer = step.answer;
     let session = step.session;
     say_number(number);

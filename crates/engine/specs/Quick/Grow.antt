@@ -27,7 +27,7 @@ use Rattle.plan.specs.Plan.{Plan, named, meets, lift, turn}
 use Rattle.engine.specs.MaskOps.{maskOps}
 use Rattle.engine.specs.Quick.{Frame, sureAt, possibleAt, Rise, raised, riseIf, riseAt, rise, refreshed, refresh, fresh, framesAfter}
 use Rattle.engine.specs.Quick.Of.{frameShown}
-use Rattle.engine.specs.Quick.Kept.{Fed, fNil, fCons, Turned, tNil, tCons}
+use Rattle.engine.specs.Quick.Kept.{Gathered, gNil, gCons, Turned, tNil, tCons}
 
 -- a rise that has stopped goes on as one without news
 
@@ -141,10 +141,10 @@ module _ (P : Plan) (y : Node) (plain : meets P (named P (y .name)) 0 ≡ meet (
   carry-step true K f r all s k e = or-zero-r K ∙ sym k ∙ ap (λ x. join K (lifted f x)) (sym (s refl) ∙ e)
   carry-step false K f r all s k e = ap (λ x. join K (lifted f x)) e
 
-  pub rise-carry : {K : ℕ} {fs : List F} → Fed O K fs → join K (risen fs .carry) ≡ join K (Engine.rise O y fs)
+  pub rise-carry : {K : ℕ} {fs : List F} → Gathered O K fs → join K (risen fs .carry) ≡ join K (Engine.rise O y fs)
   unfolding rise Engine.rise
-  rise-carry {K} fNil = ap (join K) first-carry
-  rise-carry (fCons {K} {f} {fs} k t) =
+  rise-carry {K} gNil = ap (join K) first-carry
+  rise-carry (gCons {K} {f} {fs} k t) =
       ap (λ r. join K (r .carry)) (risen-even f fs)
       ∙ carry-step (stops f fs) K f (risen fs) (Engine.rise O y fs) (eqb-true (news f fs) (f .below)) k (rise-carry t)
 
@@ -179,11 +179,11 @@ module _ (P : Plan) (y : Node) (plain : meets P (named P (y .name)) 0 ≡ meet (
       p = named P (y .name)
 
   pub refresh-all :
-      {K : ℕ} {fs : List F} (s rp : ReadyOf ℕ) → Fed O K fs →
+      {K : ℕ} {fs : List F} (s rp : ReadyOf ℕ) → Gathered O K fs →
       refresh P (s .steps) (whole (risen fs) (newest fs rp)) ≡ shown (grow O y s rp fs)
   unfolding grow rise
-  refresh-all s rp fNil = newest-shown s rp
-  refresh-all s rp (fCons {K} {f} {fs} k t) =
+  refresh-all s rp gNil = newest-shown s rp
+  refresh-all s rp (gCons {K} {f} {fs} k t) =
       ap (λ r. refresh P (s .steps) (whole r (newest fs (f .possible)))) (risen-even f fs)
       ∙ put-step (stops f fs) f (risen fs) s (O .join (f .below) (Engine.rise O y fs)) (newest fs (f .possible))
       (eqb-true (news f fs) (f .below)) (rise-carry t)
@@ -210,18 +210,18 @@ module _ (P : Plan) (y : Node) (plain : meets P (named P (y .name)) 0 ≡ meet (
       ∙ ap (λ x. put f x rs ∷ shown (grow O y (O .turn (O .meets (f .node) x) rs) (f .possible) fs)) e
 
   top-all :
-      {K : ℕ} {rs : ReadyOf ℕ} {fs : List F} (rp : ReadyOf ℕ) → Fed O K fs → Turned O rs fs →
+      {K : ℕ} {rs : ReadyOf ℕ} {fs : List F} (rp : ReadyOf ℕ) → Gathered O K fs → Turned O rs fs →
       fromTop (rs .steps) (risen fs) (newest fs rp) ≡ shown (grow O y rs rp fs)
   unfolding grow rise
-  top-all {K} {rs} rp fNil tNil = newest-shown rs rp
-  top-all {K} {rs} rp (fCons {f} {fs} k t) (tCons e u) =
+  top-all {K} {rs} rp gNil tNil = newest-shown rs rp
+  top-all {K} {rs} rp (gCons {f} {fs} k t) (tCons e u) =
       ap (λ r. fromTop (rs .steps) r (newest fs (f .possible))) (risen-even f fs)
       ∙ top-step (stops f fs) f (risen fs) (rs .steps) (newest fs (f .possible)) _
       (λ z. ap (_∷_ (frameShown P f)) (top-all (f .possible) t u) ∙ same-frame f rs _ fs (sym (eqb-true (news f fs) (f .below) z) ∙ rise-carry t) e)
-      (sym (ap (λ r. refresh P (rs .steps) (whole r (newest fs (f .possible)))) (risen-even f fs)) ∙ refresh-all rs rp (fCons {K = K} {f = f} k t))
+      (sym (ap (λ r. refresh P (rs .steps) (whole r (newest fs (f .possible)))) (risen-even f fs)) ∙ refresh-all rs rp (gCons {K = K} {f = f} k t))
 
   pub open-frames :
-      {K : ℕ} {fs : List F} → Fed O K fs → Turned O (O .start) fs →
+      {K : ℕ} {fs : List F} → Gathered O K fs → Turned O (O .start) fs →
       framesAfter P (y .name) (shown fs) (risen fs) ≡ shown (grow O y (O .start) (O .start) fs)
   unfolding framesAfter sureAt possibleAt
   open-frames t u = top-all (O .start) t u

@@ -1,6 +1,6 @@
 -- Frames that agree with one another, as those of a document do: the reason why what has not changed need not be computed again.
 --
---   Fed O K fs         under an element with K met in it: what each frame comes to has been joined to what is met above it
+--   Gathered O K fs         under an element with K met in it: what each frame comes to has been joined to what is met above it
 --   Turned O r fs      in the sure reading each frame is read with the turn of the one above, the first with r's
 --   fed-masks, turned-masks      the frames of a document agree so, in masks
 --
@@ -23,11 +23,11 @@ use Rattle.engine.specs.MaskOps.{maskOps, masks, maskState}
 use Rattle.engine.specs.MaskOps.Laws.{mask-hom}
 
 module _ {S B R N : Type 0} (O : Ops S B R N) where
-  pub data Fed : B → List (Frame B R) → Type 0 where
-    fNil : {K : B} → Fed K []
-    fCons :
+  pub data Gathered : B → List (Frame B R) → Type 0 where
+    gNil : {K : B} → Gathered K []
+    gCons :
         {K : B} {f : Frame B R} {fs : List (Frame B R)} → O .join K (O .lift (O .meets (f .node) (f .below)) (f .below)) ≡ K →
-        Fed (f .below) fs → Fed K (f ∷ fs)
+        Gathered (f .below) fs → Gathered K (f ∷ fs)
 
   pub data Turned : R → List (Frame B R) → Type 0 where
     tNil : {r : R} → Turned r []
@@ -46,10 +46,10 @@ join-again A B = sets-ext (λ st s. again (A st s) (B st s))
     again false true = refl
     again false false = refl
 
-fed-of : (q : Query) (d : Doc) (rs rp : Ready) → Fed (ops q) (met q sure-reading d) (framesOf q d rs rp)
+fed-of : (q : Query) (d : Doc) (rs rp : Ready) → Gathered (ops q) (met q sure-reading d) (framesOf q d rs rp)
 unfolding framesOf met granted
-fed-of q (done f) rs rp = fNil
-fed-of q (within p x d) rs rp = fCons (join-again _ _) (fed-of q d _ _)
+fed-of q (done f) rs rp = gNil
+fed-of q (within p x d) rs rp = gCons (join-again _ _) (fed-of q d _ _)
 
 turned-of : (q : Query) (d : Doc) (rs rp : Ready) → Turned (ops q) rs (framesOf q d rs rp)
 unfolding framesOf
@@ -60,10 +60,10 @@ turned-of q (within p x d) rs rp = tCons refl (turned-of q d _ _)
 
 module _
     {S B R N S′ B′ R′ N′ : Type 0} (O : Ops S B R N) (P : Ops S′ B′ R′ N′) (k : Coat S B R N S′ B′ R′ N′) (h : Hom O P k) where
-  fed-hom : {K : B} {fs : List (Frame B R)} → Fed O K fs → Fed P (k .below K) (map (frameIn k) fs)
-  fed-hom fNil = fNil
-  fed-hom (fCons {K} {f} e t) =
-      fCons
+  fed-hom : {K : B} {fs : List (Frame B R)} → Gathered O K fs → Gathered P (k .below K) (map (frameIn k) fs)
+  fed-hom gNil = gNil
+  fed-hom (gCons {K} {f} e t) =
+      gCons
       (ap (P .join (k .below K)) (sym (h .lift _ _ ∙ ap (λ x. P .lift x (k .below (f .below))) (h .meets (f .node) (f .below))))
       ∙ sym (h .join K _)
       ∙ ap (k .below) e)
@@ -78,7 +78,7 @@ module _ (q : Query) (a : T (admits q)) (d : Doc) where
   abbrev O : Ops ℕ ℕ (ReadyOf ℕ) (NeedOf ℕ)
   O = maskOps (plan q)
 
-  pub fed-masks : Fed O (masks q .below (met q sure-reading d)) (maskState q d .frames)
+  pub fed-masks : Gathered O (masks q .below (met q sure-reading d)) (maskState q d .frames)
   unfolding maskState stateOf framesAt
   fed-masks = fed-hom (ops q) O (masks q) (mask-hom q a) (fed-of q d start start)
 

@@ -17,7 +17,7 @@ use Rattle.feed.specs.Fed.{Came, Fed, one, andThen, fed}
 
 module _ {S T : Type 0} (f : T → S) where
   abbrev pub across : Came T → Came S
-  across c = record { refusal = c .refusal; given = c .given; seat = f (c .seat); out = c .out }
+  across c = record { refusal = c .refusal; listed = c .listed; seat = f (c .seat); out = c .out }
 
   abbrev pub allAcross : Fed T → Fed S
   allAcross r = record { seat = f (r .seat); taken = r .taken; listed = r .listed; refusal = r .refusal; out = r .out }
@@ -30,10 +30,10 @@ module _ {S T : Type 0} (f : T → S) where
     module _ (alike : Alike) where
       -- one event and what follows
       next-S : ℕ → List ℕ → Came S → Fed S
-      next-S n es c = pick (eqb (c .refusal) 0) (andThen (one c) (fed one-S n (c .seat) (drop 8 es) (drop (4 * c .given) (c .out)))) (one c)
+      next-S n es c = pick (eqb (c .refusal) 0) (andThen (one c) (fed one-S n (c .seat) (drop 8 es) (drop (4 * c .listed) (c .out)))) (one c)
 
       next-T : ℕ → List ℕ → Came T → Fed T
-      next-T n es c = pick (eqb (c .refusal) 0) (andThen (one c) (fed one-T n (c .seat) (drop 8 es) (drop (4 * c .given) (c .out)))) (one c)
+      next-T n es c = pick (eqb (c .refusal) 0) (andThen (one c) (fed one-T n (c .seat) (drop 8 es) (drop (4 * c .listed) (c .out)))) (one c)
 
       then-across : (r f′ : Fed T) → andThen (allAcross r) (allAcross f′) ≡ allAcross (andThen r f′)
       unfolding andThen
@@ -41,7 +41,8 @@ module _ {S T : Type 0} (f : T → S) where
 
       next-across :
           (n : ℕ) (es : List ℕ) (c : Came T) →
-          fed one-S n (f (c .seat)) (drop 8 es) (drop (4 * c .given) (c .out)) ≡ allAcross (fed one-T n (c .seat) (drop 8 es) (drop (4 * c .given) (c .out))) →
+          fed one-S n (f (c .seat)) (drop 8 es) (drop (4 * c .listed) (c .out))
+          ≡ allAcross (fed one-T n (c .seat) (drop 8 es) (drop (4 * c .listed) (c .out))) →
           next-S n es (across c) ≡ allAcross (next-T n es c)
       unfolding next-S next-T
       next-across n es c e =
@@ -58,5 +59,5 @@ module _ {S T : Type 0} (f : T → S) where
           (λ e. ap (λ (r : Fed T). allAcross r) (pick-yes _ _ _ _ e refl))
           (λ e.
           ap (next-S n es) (alike .same t (take 8 es) out ok (ltb-false _ _ e))
-          ∙ next-across n es c (fed-across n (c .seat) (drop 8 es) (drop (4 * c .given) (c .out)) (alike .stays t (take 8 es) out ok))
+          ∙ next-across n es c (fed-across n (c .seat) (drop 8 es) (drop (4 * c .listed) (c .out)) (alike .stays t (take 8 es) out ok))
           ∙ ap (λ (r : Fed T). allAcross r) (pick-no _ _ _ _ e refl))

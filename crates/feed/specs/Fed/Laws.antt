@@ -156,7 +156,7 @@ module _ {S : Type 0} where
         (wide : outputNeeded ≤ length (r .out) - 4 * r .listed) (c : Came S)
         (is : c ≡ take-one (r .seat) (take 8 (drop (8 * r .taken) es)) (drop (4 * r .listed) (r .out))) where
       abbrev next : ℕ → Fed S
-      next m = fed take-one m (c .seat) (drop 8 (drop (8 * r .taken) es)) (drop (4 * c .given) (c .out))
+      next m = fed take-one m (c .seat) (drop 8 (drop (8 * r .taken) es)) (drop (4 * c .listed) (c .out))
 
       -- what was left begins with this event
       rest-is :
@@ -169,7 +169,7 @@ module _ {S : Type 0} where
           ap (λ k. fed take-one k (r .seat) (drop (8 * r .taken) es) (drop (4 * r .listed) (r .out))) e
           ∙ pick-false _ _ _ (le-ltb _ _ w)
           ∙ ap (λ (y : Came S). pick (eqb (y .refusal) 0)
-          (andThen (one y) (fed take-one m (y .seat) (drop 8 (drop (8 * r .taken) es)) (drop (4 * y .given) (y .out)))) (one y)) (sym is)
+          (andThen (one y) (fed take-one m (y .seat) (drop 8 (drop (8 * r .taken) es)) (drop (4 * y .listed) (y .out)))) (one y)) (sym is)
 
       turn-either :
           (b : Bool) → eqb (c .refusal) 0 ≡ b → (m : ℕ) → n - r .taken ≡ suc m →
@@ -182,7 +182,7 @@ module _ {S : Type 0} where
           pick-true _ _ _ e
           ∙ ap (andThen (andThen r (one c)))
           (ap (λ j. fed take-one j (c .seat) (drop (8 * (r .taken + boolByte (eqb (c .refusal) 0))) es)
-          (drop (4 * (r .listed + c .given)) (take (4 * r .listed) (r .out) ++ c .out))) k
+          (drop (4 * (r .listed + c .listed)) (take (4 * r .listed) (r .out) ++ c .out))) k
           ∙ ap₂ (λ x y. fed take-one m (c .seat) x y) (ap (λ j. drop j es) a ∙ sym (drop-drop 8 (8 * r .taken) es)) (drop-both r (one c) fits))
           ∙ sym (andThen-assoc r (one c) fits (next m))
           ∙ ap (andThen r) (sym (pick-true true (andThen (one c) (next m)) (one c) refl))
@@ -198,21 +198,21 @@ module _ {S : Type 0} where
 
     pub turn-underway :
         (s : S) (es out : List ℕ) (r : Fed S) → Underway take-one s es out r → Goes (length es / 8 - r .taken) (r .refusal) (length (r .out) - 4 * r .listed) →
-        (refusal given : ℕ) (t : S) (o : List ℕ) →
-        _≡_ {A = Came S} (record { refusal = refusal; given = given; seat = t; out = o })
+        (refusal listed : ℕ) (t : S) (o : List ℕ) →
+        _≡_ {A = Came S} (record { refusal = refusal; listed = listed; seat = t; out = o })
         (take-one (r .seat) (recordAt (8 * r .taken) es) (restOf (4 * r .listed) (r .out))) →
-        length o ≡ length (restOf (4 * r .listed) (r .out)) → 4 * given ≤ outputNeeded →
+        length o ≡ length (restOf (4 * r .listed) (r .out)) → 4 * listed ≤ outputNeeded →
         Underway take-one s es out
         (record {
           seat = t;
           taken = r .taken + boolByte (eqb refusal 0);
-          listed = r .listed + given;
+          listed = r .listed + listed;
           refusal = refusal;
           out = givenBack (4 * r .listed) (r .out) o;
         })
     unfolding andThen
-    turn-underway s es out r so goes refusal given t o is el few =
-        let c : Came S = record { refusal = refusal; given = given; seat = t; out = o } in
+    turn-underway s es out r so goes refusal listed t o is el few =
+        let c : Came S = record { refusal = refusal; listed = listed; seat = t; out = o } in
         let e : givenBack (4 * r .listed) (r .out) o ≡ take (4 * r .listed) (r .out) ++ o = rest-back (4 * r .listed) (r .out) o in
         let k : length (take (4 * r .listed) (r .out) ++ o) ≡ length (r .out) =
         length-andThen r (one c) (so .fits) (el ∙ ap length (rest-lent (4 * r .listed) (r .out))) in
@@ -221,7 +221,7 @@ module _ {S : Type 0} where
               ap (λ (x : List ℕ). resumed take-one (length es / 8) es (record {
                 seat = t;
                 taken = r .taken + boolByte (eqb refusal 0);
-                listed = r .listed + given;
+                listed = r .listed + listed;
                 refusal = refusal;
                 out = x;
               })) e

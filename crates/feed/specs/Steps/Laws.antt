@@ -34,34 +34,34 @@ use Rattle.feed.specs.Steps.{Seat, seat, came, cameTo, stepAt, Whole, Fe
 
 -- E′ and N′ are what the rooms hold on return
 module _ (P : Plan) (n : Numbers) (E N bytes out : List ℕ) (longE : length E ≡ elementsNeeded) (longN : length N ≡ nodesNeeded) (bE : Bytes E) (bN : Bytes N)
-    (refusal given : ℕ) (n′ : Numbers) (E′ N′ out′ : List ℕ) (longE′ : length E′ ≡ elementsNeeded) (longN′ : length N′ ≡ nodesNeeded) (bE′ : Bytes E′)
+    (refusal listed : ℕ) (n′ : Numbers) (E′ N′ out′ : List ℕ) (longE′ : length E′ ≡ elementsNeeded) (longN′ : length N′ ≡ nodesNeeded) (bE′ : Bytes E′)
     (bN′ : Bytes N′)
-    (stepped : after refusal given n′ (elementsIn E′) (queueIn N′) out′ ≡ step P (shown (eventOf bytes)) n (elementsIn E) (queueIn N) out) where
+    (stepped : after refusal listed n′ (elementsIn E′) (queueIn N′) out′ ≡ step P (shown (eventOf bytes)) n (elementsIn E) (queueIn N) out) where
   same :
       {g g′ : ℕ} {m m′ : Numbers} {A A′ B B′ C C′ : List ℕ} (r : ℕ) → g ≡ g′ → m ≡ m′ → A ≡ A′ → B ≡ B′ → C ≡ C′ →
       came r g (seat m A B) C ≡ came r g′ (seat m′ A′ B′) C′
   same r e₁ e₂ e₃ e₄ e₅ = λ i. came r (e₁ i) (seat (e₂ i) (e₃ i) (e₄ i)) (e₅ i)
 
-  came-refused : (refusal ≡ 0 → ⊥) → came refusal given (seat n′ E′ N′) out′ ≡ came refusal 0 (seat n E N) out
+  came-refused : (refusal ≡ 0 → ⊥) → came refusal listed (seat n′ E′ N′) out′ ≡ came refusal 0 (seat n E N) out
   came-refused f =
       let k = refused-same P n (elementsIn E) (queueIn N) out (shown (eventOf bytes)) _ stepped f in
-      same refusal (ap (λ (y : After). y .given) k) (ap (λ (y : After). y .numbers) k)
+      same refusal (ap (λ (y : After). y .listed) k) (ap (λ (y : After). y .numbers) k)
       (elements-same E′ E longE′ longE bE′ bE (ap (λ (y : After). y .elements) k))
       (nodes-same N′ N longN′ longN bN′ bN (ap (λ (y : After). y .nodes) k)) (ap (λ (y : After). y .out) k)
 
   either :
       (b : Bool) → eqb refusal 0 ≡ b →
-      came refusal given (seat n′ E′ N′) out′ ≡ cameTo (seat n E N) out (after refusal given n′ (elementsIn E′) (queueIn N′) out′)
+      came refusal listed (seat n′ E′ N′) out′ ≡ cameTo (seat n E N) out (after refusal listed n′ (elementsIn E′) (queueIn N′) out′)
   unfolding cameTo
   either true e =
       pick-yes _ _ _ _ e
-      (ap (λ (r : ℕ). came r given (seat n′ E′ N′) out′) (eqb-true _ _ e)
+      (ap (λ (r : ℕ). came r listed (seat n′ E′ N′) out′) (eqb-true _ _ e)
       ∙ same 0 refl refl (sym (elements-laid E′ longE′ bE′)) (sym (nodes-laid N′ longN′ bN′)) refl)
   either false e = pick-no _ _ _ _ e (came-refused (eqb-false _ _ e))
 
   pub step-came :
       _≡_ {A = Came Seat}
-      (record { refusal = refusal; given = given; seat = record { numbers = n′; elements = E′; nodes = N′ }; out = out′ })
+      (record { refusal = refusal; listed = listed; seat = record { numbers = n′; elements = E′; nodes = N′ }; out = out′ })
       (stepAt P (seat n E N) bytes out)
   unfolding stepAt
   step-came = either (eqb refusal 0) refl ∙ ap (cameTo (seat n E N) out) stepped

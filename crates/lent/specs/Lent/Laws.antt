@@ -1,6 +1,6 @@
 -- What a refusal for what is lent says.
 --
---   room-enough    where the room is not refused it is not too small
+--   room-fits    where the room is not refused it is not too small
 --   room-short     where the room is refused it is too small
 --   lent-short     where all that is lent is refused with enough of a buffer, it is with 15, and the room is too small
 --
@@ -16,8 +16,8 @@ use Rattle.meaning.specs.Limits.{outputNeeded}
 use Rattle.meaning.specs.Refusals.{shortRoom}
 use Rattle.lent.specs.Lent.{refuseRoom, RoomFits, refuseLent}
 
-pub room-enough : (elements nodes : ℕ) → RoomFits elements nodes → tooSmall elements nodes ≡ false
-room-enough elements nodes fits = not-small elements nodes (fits .deep) (fits .held)
+pub room-fits : (elements nodes : ℕ) → RoomFits elements nodes → tooSmall elements nodes ≡ false
+room-fits elements nodes fits = not-small elements nodes (fits .deep) (fits .held)
 
 by-test : (b : Bool) (r : ℕ) → r ≡ pick b shortRoom 0 → (r ≡ 0 → ⊥) → (r ≡ shortRoom) × (b ≡ true)
 unfolding pick

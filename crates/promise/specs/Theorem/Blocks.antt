@@ -31,12 +31,12 @@ use Rattle.plan_bytes.specs.Kept.{keptIn}
 use Rattle.feed.specs.Fed.{Came, Fed, none, one, andThen, fed}
 use Rattle.feed.specs.Steps.{Seat, seat, stepAt}
 use Rattle.session.specs.declared.Session.{Session}
-use Rattle.session.specs.declared.Step.{Step}
+use Rattle.session.specs.declared.Next.{Next}
 use Rattle.session.specs.declared.Answer.{Answer}
 use Rattle.session.specs.declared.Answer.the-variants.{Refused, Taken}
 use Rattle.session.specs.declared.Ran.{Ran}
 use Rattle.session.specs.Event.{Done, sessionNumbers, settled, within, beside, toldOf, event, EventGives}
-use Rattle.session.specs.Run.{Housed, housed, refusalOf, givenOf, cameAs, eventAt, ran, RunGives}
+use Rattle.session.specs.Run.{Housed, housed, refusalOf, listedOf, cameAs, eventAt, ran, RunGives}
 use Rattle.session.specs.Told.{told}
 use Rattle.promise.specs.Promise.{SameUsed, Of, leftBy, event-of, event-answered, event-written}
 use Rattle.promise.specs.Theorem as theorem
@@ -120,14 +120,14 @@ module _ {b : List ℕ} {fs : List Event} {l : Housed} (o : Of b fs l) (n : ℕ)
     (used : tooSmall (length E) (length N) ≡ false → SameUsed l E N) (whole : 8 ≤ length es) (wide : outputNeeded ≤ length out)
     (t : Session) (A B out′ : List ℕ) where
   abbrev came : Answer → Came Housed
-  came a = record { refusal = refusalOf a; given = givenOf a; seat = housed t A B; out = out′ }
+  came a = record { refusal = refusalOf a; listed = listedOf a; seat = housed t A B; out = out′ }
 
   refused-singly :
       (x : ℕ) → 0 < x → EventGives (l .session) (take 8 es) E N out (record { answer = Refused x; session = t }) A B out′ →
       Singly l (suc n) es E N out (one (came (Refused x)))
-  unfolding answerOf told handedOut handedBy recordsOf refusalOf givenOf leftBy
+  unfolding answerOf told handedOut handedBy recordsOf refusalOf listedOf leftBy
   refused-singly x some g =
-      let r : Step = record { answer = Refused x; session = t } in
+      let r : Next = record { answer = Refused x; session = t } in
       let back = same (l .session) (take 8 es) E N out r A B out′ g .refused-same x refl in
       record {
         offers = offer (take 8 es) E N out ∷ [];
@@ -149,7 +149,7 @@ module _ {b : List ℕ} {fs : List Event} {l : Housed} (o : Of b fs l) (n : ℕ)
 
   module _ (k : ℕ) (g : EventGives (l .session) (take 8 es) E N out (record { answer = Taken k; session = t }) A B out′)
       (enough : tooSmall (length E) (length N) ≡ false) (f : Fed Housed) (rest : Singly (housed t A B) n (drop 8 es) A B (drop (4 * k) out′) f) where
-    abbrev r : Step
+    abbrev r : Next
     r = record { answer = Taken k; session = t }
 
     abbrev ns : List ℕ
@@ -183,7 +183,7 @@ module _ {b : List ℕ} {fs : List Event} {l : Housed} (o : Of b fs l) (n : ℕ)
         ap₂ tooSmall (long .0) (long .1) ∙ enough
 
     taken-singly : Singly l (suc n) es E N out (andThen (one (came (Taken k))) f)
-    unfolding andThen answerOf told handedOut handedBy refusalOf givenOf
+    unfolding andThen answerOf told handedOut handedBy refusalOf listedOf
     taken-singly =
         let left : length (drop (4 * k) out′) ≡ length out - 4 * k =
         ap length (event-taken o (take 8 es) E N out A B out′ r k used g refl) ∙ length-drop (4 * k) out in
@@ -222,13 +222,13 @@ module _ (n : ℕ) {b : List ℕ}
     {fs : List Event} {l : Housed} (o : Of b fs l) (es E N out : List ℕ) (used : tooSmall (length E) (length N) ≡ false → SameUsed l E N)
     (whole : 8 * suc n ≤ length es) (wide : outputNeeded ≤ length out) where
   abbrev followed : Came Housed → Fed Housed
-  followed c = pick (eqb (c .refusal) 0) (andThen (one c) (fed eventAt n (c .seat) (drop 8 es) (drop (4 * c .given) (c .out)))) (one c)
+  followed c = pick (eqb (c .refusal) 0) (andThen (one c) (fed eventAt n (c .seat) (drop 8 es) (drop (4 * c .listed) (c .out)))) (one c)
 
   one-singly :
       (a : Answer) (t : Session) (A B out′ : List ℕ) →
       _≡_ {A = Done} (record { answer = a; session = t; elements = A; nodes = B; out = out′ }) (event (l .session) (take 8 es) E N out) →
       Singly l (suc n) es E N out (followed (cameAs (record { answer = a; session = t; elements = A; nodes = B; out = out′ })))
-  unfolding refusalOf givenOf
+  unfolding refusalOf listedOf
   one-singly (Refused x) t A B out′ e =
       let some : 0 < x = refused-some (l .session) (take 8 es) E N out x (sym (ap (λ (d : Done). d .answer) e)) in
       subst (Singly l (suc n) es E N out)
@@ -298,7 +298,7 @@ pub use-some :
     (r : Reply) × (k : Housed) × Reached b (us ++ (offer bytes E N out ∷ [])) (rs ++ (r ∷ [])) k
 use-some {l = l} x bytes E N out used =
     let d = event (l .session) bytes E N out in
-    let r : Step = record { answer = d .answer; session = d .session } in (
+    let r : Next = record { answer = d .answer; session = d .session } in (
       stepped r (d .elements) (d .nodes) (d .out),
       leftBy l E N (d .session) (d .elements) (d .nodes),
       reached-by x (played-append (x .played) (by-event {r = r} used refl unused)),

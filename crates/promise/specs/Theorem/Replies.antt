@@ -49,12 +49,12 @@ use Rattle.session.specs.declared.Session.{Session}
 use Rattle.session.specs.declared.Begun as given
 use Rattle.session.specs.declared.Start as start
 use Rattle.session.specs.declared.Start.the-variants as started
-use Rattle.session.specs.declared.Step.{Step}
+use Rattle.session.specs.declared.Next.{Next}
 use Rattle.session.specs.declared.Finish.{Finish}
 use Rattle.session.specs.declared.Finish.the-variants as finish-cases
 use Rattle.session.specs.declared.Answer.{Answer}
 use Rattle.session.specs.declared.Answer.the-variants.{Refused, Taken}
-use Rattle.session.specs.Begin.{fresh, said, answerOf as startAnswer, sessionFor, begun, BeginGives}
+use Rattle.session.specs.Begin.{fresh, said, startAnswer, sessionFor, begun, BeginGives}
 use Rattle.session.specs.Begin.Laws.{begin-one}
 use Rattle.session.specs.Event as events
 use Rattle.session.specs.Event.{Done, refused, sessionNumbers, settled, within, beside, event, EventGives}
@@ -65,7 +65,7 @@ use Rattle.promise.specs.Promise.{SameUsed, Of, leftBy, room-long, begin
 use Rattle.promise.specs.Promise.{event-answered, event-of, event-written, finish-given, waiting-held, opened-is, handed-is, held-is}
 use Rattle.promise.specs.Theorem.Short.{event-short, event-small}
 use Rattle.promise.specs.Theorem.{Use, Reply, stepped, finish, Played, unused, by-event, by-finish, Reached}
-use Rattle.promise.specs.Theorem.{callOf, answerOf, recordsBy, recordsIn, streamOf, nodesOf, Begins, Promised, Same}
+use Rattle.promise.specs.Theorem.{callOf, answerOf, recordsBy, writtenIn, streamOf, nodesOf, Begins, Promised, Same}
 
 -- a refused event writes nothing
 refused-none : (m : meaning.Answer) (n : ℕ) → meaning.refused n ≡ m → handedBy m ≡ []
@@ -95,10 +95,10 @@ finish-none (finish-cases.Ended k h) m e = ap handedBy (sym e)
 pub record Kept (b : List ℕ) (es : List Event) (us : List Use) (rs : List Reply) (l : Housed) : Type 0 where
   pub of : Of b (accepted (decode b) es (map callOf us)) l
   pub answered : map answerOf rs ≡ answers (decode b) es (map callOf us)
-  pub recorded : flatMap recordsIn rs ≡ recordsOf (handedOut (answers (decode b) es (map callOf us)))
+  pub recorded : flatMap writtenIn rs ≡ recordsOf (handedOut (answers (decode b) es (map callOf us)))
 
 pub play-kept : {b : List ℕ} {es : List Event} {l k : Housed} {us : List Use} {rs : List Reply} → Of b es l → Played l us rs k → Kept b es us rs k
-unfolding callOf answerOf recordsIn accepted answers handedOut flatMap
+unfolding callOf answerOf writtenIn accepted answers handedOut flatMap
 play-kept o unused = record { of = o; answered = refl; recorded = unfold recordsOf in refl }
 play-kept {b} {es} o (by-event {bytes} {E} {N} {out} {E′} {N′} {out′} {r} same g p) =
     let c = Call.event bytes (record { out = length out; elements = length E; nodes = length N }) in
@@ -126,7 +126,7 @@ reached-kept {b} x = play-kept (begin-of b (x .E) (x .N) (x .begun) (x .bytes) (
 
 -- an event on a session after es
 pub event-taken :
-    {b : List ℕ} {es : List Event} {l : Housed} → Of b es l → (bytes E N out E′ N′ out′ : List ℕ) (r : Step) (k : ℕ) →
+    {b : List ℕ} {es : List Event} {l : Housed} → Of b es l → (bytes E N out E′ N′ out′ : List ℕ) (r : Next) (k : ℕ) →
     (tooSmall (length E) (length N) ≡ false → SameUsed l E N) → EventGives (l .session) bytes E N out r E′ N′ out′ → r .answer ≡ Taken k →
     drop (4 * k) out′ ≡ drop (4 * k) out
 unfolding told buffer
@@ -234,7 +234,7 @@ module _ (s : Session) (bytes E N out : List ℕ) where
       )))
 
 pub same :
-    (s : Session) (bytes E N out : List ℕ) (r : Step) (E′ N′ out′ : List ℕ) → EventGives s bytes E N out r E′ N′ out′ → Same s bytes E N out r E′ N′ out′
+    (s : Session) (bytes E N out : List ℕ) (r : Next) (E′ N′ out′ : List ℕ) → EventGives s bytes E N out r E′ N′ out′ → Same s bytes E N out r E′ N′ out′
 unfolding Back Rooms
 same s bytes E N out r E′ N′ out′ g =
     let is = event-is s bytes E N out r E′ N′ out′ g in
@@ -249,7 +249,7 @@ same s bytes E N out r E′ N′ out′ g =
     }
 
 pub event-long :
-    (s : Session) (bytes E N out : List ℕ) (r : Step) (E′ N′ out′ : List ℕ) → EventGives s bytes E N out r E′ N′ out′ →
+    (s : Session) (bytes E N out : List ℕ) (r : Next) (E′ N′ out′ : List ℕ) → EventGives s bytes E N out r E′ N′ out′ →
     (length E′ ≡ length E) × (length N′ ≡ length N)
 unfolding Rooms
 event-long s bytes E N out r E′ N′ out′ g =
@@ -305,7 +305,7 @@ begin-some b E N =
     )
 
 pub event-some :
-    (s : Session) (bytes E N out : List ℕ) → (r : Step) × (E′ : List ℕ) × (N′ : List ℕ) × (out′ : List ℕ) × EventGives s bytes E N out r E′ N′ out′
+    (s : Session) (bytes E N out : List ℕ) → (r : Next) × (E′ : List ℕ) × (N′ : List ℕ) × (out′ : List ℕ) × EventGives s bytes E N out r E′ N′ out′
 event-some s bytes E N out =
     let d = event s bytes E N out in (record { answer = d .answer; session = d .session }, d .elements, d .nodes, d .out, refl)
 

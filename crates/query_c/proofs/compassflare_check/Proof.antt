@@ -15,11 +15,17 @@ enum-told c = search needs
 enum-told-2 : tie.Need-enum-told-2
 enum-told-2 c = search needs
 
+cast-result : tie.Need-cast-result
+cast-result c = search needs
+
 enum-known-answer : tie.Need-enum-known-answer
 enum-known-answer c = search needs
 
-cast-result : tie.Need-cast-result
-cast-result c = search needs
+cast-result-2 : tie.Need-cast-result-2
+cast-result-2 c = search needs
+
+cast-result-3 : tie.Need-cast-result-3
+cast-result-3 c = search needs
 
 mul-result : tie.Need-mul-result
 mul-result c = search needs
@@ -46,8 +52,10 @@ compassflare-check-spec =
     check-requires
     enum-told
     enum-told-2
-    enum-known-answer
     cast-result
+    enum-known-answer
+    cast-result-2
+    cast-result-3
     mul-result
     add-result
     returns

@@ -1,7 +1,7 @@
 -- Case by case (Begin.Laws). Assumes nothing.
 use borrow.Author.Needs.{needs}
 use mathlib.Core.Path.{refl}
-use Rattle.lent.specs.Lent.Laws.{room-enough, room-short}
+use Rattle.lent.specs.Lent.Laws.{room-fits, room-short}
 use Rattle.session.specs.Begin.Laws.{begin-short, begin-admitted, begin-long, begin-broken}
 use Rattle.session.proofs.begin.Statement.{statement}
 use Rattle.session.proofs.begin.Tie as tie
@@ -42,19 +42,19 @@ enum-known-answer c = search needs
 
 returns-2 : tie.Need-returns-2
 returns-2 c = let at-check = c .before .before .before .before in
-    let enough = room-enough _ _ (at-check .before .before .refuse-room .ensures .1 (at-check .before .if1 .left)) in
+    let enough = room-fits _ _ (at-check .before .before .refuse-room .ensures .1 (at-check .before .if1 .left)) in
     begin-admitted _ _ _ _ _ enough _ (c .fresh2 .ensures) _ (at-check .check .ensures) (c .before .before .enum-told .given .1) refl
     (c .before .plan-of2 .ensures)
 
 returns-3 : tie.Need-returns-3
 returns-3 c = let at-check = c .before .before in
-    let enough = room-enough _ _ (at-check .before .before .refuse-room .ensures .1 (at-check .before .if1 .left)) in
+    let enough = room-fits _ _ (at-check .before .before .refuse-room .ensures .1 (at-check .before .if1 .left)) in
     begin-long _ _ _ _ _ enough _ (at-check .before .before .before .fresh .ensures) _ (at-check .check .ensures) (c .enum-told2 .given .1) refl
     (at-check .before .before .before .before .plan-of .ensures)
 
 returns-4 : tie.Need-returns-4
 returns-4 c = let at-check = c .before .before .before in
-    let enough = room-enough _ _ (at-check .before .before .refuse-room .ensures .1 (at-check .before .if1 .left)) in
+    let enough = room-fits _ _ (at-check .before .before .refuse-room .ensures .1 (at-check .before .if1 .left)) in
     begin-broken _ _ _ _ _ enough _ (at-check .before .before .before .fresh .ensures) _ (at-check .check .ensures) _ (c .before .answer .given .1) refl
     (at-check .before .before .before .before .plan-of .ensures)
 

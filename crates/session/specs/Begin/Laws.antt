@@ -23,24 +23,24 @@ use Rattle.session.specs.declared.Begun as given
 use Rattle.session.specs.declared.Session.{Session}
 use Rattle.session.specs.declared.Start as start
 use Rattle.session.specs.declared.Start.the-variants as started
-use Rattle.session.specs.Begin.{fresh, said, Begun, answerOf, sessionFor, begun, BeginGives}
+use Rattle.session.specs.Begin.{fresh, said, Begun, startAnswer, sessionFor, begun, BeginGives}
 
 module _ (q E N : List ℕ) (a : start.Start) (s : Session) where
   -- the answer, and the session beside it
-  beside : said a ≡ answerOf q E N → s ≡ sessionFor (said a) q → BeginGives q E N (record { answer = a; session = s })
+  beside : said a ≡ startAnswer q E N → s ≡ sessionFor (said a) q → BeginGives q E N (record { answer = a; session = s })
   unfolding begun
   beside ea es = ap (λ (t : Session). record { answer = said a; session = t }) es ∙ ap (λ x. record { answer = x; session = sessionFor x q }) ea
 
   pub begin-short :
       (plan : Plan) → a ≡ started.ShortRoom → tooSmall (length E) (length N) ≡ true → plan ≡ planOf [] → s ≡ fresh plan →
       BeginGives q E N (record { answer = a; session = s })
-  unfolding said answerOf sessionFor
+  unfolding said startAnswer sessionFor
   begin-short plan ea h ep es =
       beside (ap said ea ∙ sym (pick-true _ _ _ h)) (es ∙ ap fresh ep ∙ ap (λ x. sessionFor (said x) q) (sym ea))
 
   module _ (enough : tooSmall (length E) (length N) ≡ false) (plan : Plan) (es : s ≡ fresh plan) (c : QueryAnswer) (checked : query.said c ≡ answerTo q) where
-    asked : query.said c ≡ answerOf q E N
-    unfolding answerOf
+    asked : query.said c ≡ startAnswer q E N
+    unfolding startAnswer
     asked = checked ∙ sym (pick-false _ _ _ enough)
 
     pub begin-admitted : c ≡ Admitted → a ≡ started.Begun → plan ≡ planOf q → BeginGives q E N (record { answer = a; session = s })

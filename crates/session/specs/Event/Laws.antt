@@ -34,7 +34,7 @@ use Rattle.feed.specs.Steps.Laws.{step-came, refused-at}
 use Rattle.session.specs.declared.Session.{Session}
 use Rattle.session.specs.declared.Answer.{Answer}
 use Rattle.session.specs.declared.Answer.the-variants.{Refused, Taken}
-use Rattle.session.specs.declared.Step.{Step}
+use Rattle.session.specs.declared.Next.{Next}
 use Rattle.session.specs.declared.Finish as finished
 use Rattle.session.specs.Event.{Done, refused, sessionNumbers, withNumbers, settled, within, beside, event}
 use Rattle.session.specs.Event.{ToldDone, toldAs, toldOf, EventGives, finish, FinishGives}
@@ -48,14 +48,14 @@ with-parts s n depth held opened handed ended e₁ e₂ e₃ e₄ e₅ =
     λ i. record { kept = s .kept; depth = e₁ i; held = e₂ i; opened = e₃ i; handed = e₄ i; ended = not (eqb (e₅ i) 0) }
 
 -- on the room that is needed; E′ and N′ are what it holds on return
-module _ (s : Session) (bytes E N out E′ N′ out′ : List ℕ) (refusal given : ℕ) (n n′ : Numbers) (longE : length E ≡ elementsNeeded)
+module _ (s : Session) (bytes E N out E′ N′ out′ : List ℕ) (refusal listed : ℕ) (n n′ : Numbers) (longE : length E ≡ elementsNeeded)
     (longN : length N ≡ nodesNeeded) (longE′ : length E′ ≡ elementsNeeded) (longN′ : length N′ ≡ nodesNeeded) (bE : Bytes E) (bN : Bytes N) (bE′ : Bytes E′)
     (bN′ : Bytes N′) (laid-as : n ≡ sessionNumbers s)
-    (stepped : after refusal given n′ (elementsIn E′) (queueIn N′) out′
+    (stepped : after refusal listed n′ (elementsIn E′) (queueIn N′) out′
     ≡ step (keptIn (s .kept)) (shown (eventOf bytes)) n (elementsIn E) (queueIn N) out) where
-  came-is : came refusal given (seat n′ E′ N′) out′ ≡ stepAt (keptIn (s .kept)) (seat (sessionNumbers s) E N) bytes out
+  came-is : came refusal listed (seat n′ E′ N′) out′ ≡ stepAt (keptIn (s .kept)) (seat (sessionNumbers s) E N) bytes out
   came-is =
-      step-came (keptIn (s .kept)) n E N bytes out longE longN bE bN refusal given n′ E′ N′ out′ longE′ longN′ bE′ bN′ stepped
+      step-came (keptIn (s .kept)) n E N bytes out longE longN bE bN refusal listed n′ E′ N′ out′ longE′ longN′ bE′ bN′ stepped
       ∙ ap (λ m. stepAt (keptIn (s .kept)) (seat m E N) bytes out) laid-as
 
   pub within-refused :
@@ -76,10 +76,10 @@ module _ (s : Session) (bytes E N out E′ N′ out′ : List ℕ) (refusal give
 
   pub within-taken :
       (t : Session) → refusal ≡ 0 → t ≡ withNumbers s n′ →
-      _≡_ {A = Done} (record { answer = Taken given; session = t; elements = E′; nodes = N′; out = out′ }) (within s bytes E N out)
+      _≡_ {A = Done} (record { answer = Taken listed; session = t; elements = E′; nodes = N′; out = out′ }) (within s bytes E N out)
   unfolding within settled
   within-taken t z et =
-      ap (λ (u : Session). record { answer = Taken given; session = u; elements = E′; nodes = N′; out = out′ }) et
+      ap (λ (u : Session). record { answer = Taken listed; session = u; elements = E′; nodes = N′; out = out′ }) et
       ∙ pick-yes _ _ _ _ (eq-eqb refusal 0 z) refl
       ∙ ap (settled s E N out) came-is
 
@@ -131,7 +131,7 @@ told-same a a′ s s′ E E′ N N′ o o′ e =
     )
 
 pub event-is :
-    (s : Session) (bytes E N out : List ℕ) (r : Step) (E′ N′ out′ : List ℕ) → EventGives s bytes E N out r E′ N′ out′ →
+    (s : Session) (bytes E N out : List ℕ) (r : Next) (E′ N′ out′ : List ℕ) → EventGives s bytes E N out r E′ N′ out′ →
     _≡_ {A = Done} (record { answer = r .answer; session = r .session; elements = E′; nodes = N′; out = out′ }) (event s bytes E N out)
 event-is s bytes E N out r E′ N′ out′ g =
     let d : Done = event s bytes E N out in
@@ -139,7 +139,7 @@ event-is s bytes E N out r E′ N′ out′ g =
     λ i. record { answer = e .0 i; session = e .1 .0 i; elements = e .1 .1 .0 i; nodes = e .1 .1 .1 .0 i; out = e .1 .1 .1 .1 i }
 
 pub event-one :
-    (s : Session) (bytes E N out : List ℕ) (r r′ : Step) (A A′ B B′ o o′ : List ℕ) → EventGives s bytes E N out r A B o →
+    (s : Session) (bytes E N out : List ℕ) (r r′ : Next) (A A′ B B′ o o′ : List ℕ) → EventGives s bytes E N out r A B o →
     EventGives s bytes E N out r′ A′ B′ o′ → (r ≡ r′) × ((A ≡ A′) × ((B ≡ B′) × (o ≡ o′)))
 event-one s bytes E N out r r′ A A′ B B′ o o′ g g′ =
     let e = told-same (r .answer) (r′ .answer) (r .session) (r′ .session) A A′ B B′ o o′ (g ∙ sym g′) in

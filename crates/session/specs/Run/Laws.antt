@@ -36,7 +36,7 @@ use Rattle.session.specs.declared.Ran.{Ran}
 use Rattle.session.specs.Event.{Done, sessionNumbers, withNumbers, settled, within, beside, event}
 use Rattle.lent.specs.Lent.{refuseLent}
 use Rattle.lent.specs.Lent.Laws.{lent-short}
-use Rattle.session.specs.Run.{Housed, housed, refusalOf, givenOf, cameAs, eventAt, ran, runWithin, RunGives}
+use Rattle.session.specs.Run.{Housed, housed, refusalOf, listedOf, cameAs, eventAt, ran, runWithin, RunGives}
 
 -- the numbers there and back
 
@@ -93,10 +93,10 @@ module _ (s : Session) (A B : List ℕ) (t : Seat) (bytes out : List ℕ) (w : W
   settled-is :
       (c : Came Seat) → ((c .refusal ≡ 0 → ⊥) → c ≡ came (c .refusal) 0 t out) →
       cameAs (with-rest (settled now (t .elements) (t .nodes) out c)) ≡ across (seen s A B) c
-  unfolding settled refusalOf givenOf
+  unfolding settled refusalOf listedOf
   settled-is c kept =
       pick-known (λ (d : Done). cameAs (with-rest d) ≡ across (seen s A B) c) (eqb (c .refusal) 0) _ _
-      (λ e. ap (λ (r : ℕ). record { refusal = r; given = c .given; seat = seen s A B (c .seat); out = c .out }) (sym (eqb-true _ _ e)))
+      (λ e. ap (λ (r : ℕ). record { refusal = r; listed = c .listed; seat = seen s A B (c .seat); out = c .out }) (sym (eqb-true _ _ e)))
       (λ e. sym (ap (λ (y : Came Seat). across (seen s A B) y) (kept (eqb-false _ _ e))))
 
   event-seen : outputNeeded ≤ length out → eventAt (seen s A B t) bytes out ≡ across (seen s A B) (stepAt P t bytes out)
@@ -165,8 +165,8 @@ module _ (s : Session) (es E N out : List ℕ) where
   -- "15 comes directly after 1 and before all others"
   small-event :
       (bytes : List ℕ) → outputNeeded ≤ length out → tooSmall (length E) (length N) ≡ true →
-      eventAt (housed s E N) bytes out ≡ record { refusal = shortRoom; given = 0; seat = housed s E N; out = out }
-  unfolding eventAt event refusalOf givenOf
+      eventAt (housed s E N) bytes out ≡ record { refusal = shortRoom; listed = 0; seat = housed s E N; out = out }
+  unfolding eventAt event refusalOf listedOf
   small-event bytes h k = ap (λ (d : Done). cameAs d) (pick-false _ _ _ (le-ltb _ _ h) ∙ pick-true _ _ _ k)
 
   small :
@@ -177,7 +177,7 @@ module _ (s : Session) (es E N out : List ℕ) where
   small (suc n) l h k =
       pick-no _ _ _ _ (le-ltb _ _ h)
       (sym (ap (λ (c : Came Housed). pick (eqb (c .refusal) 0)
-      (andThen (one c) (fed eventAt n (c .seat) (drop 8 es) (drop (4 * c .given) (c .out)))) (one c)) (small-event (take 8 es) h k)
+      (andThen (one c) (fed eventAt n (c .seat) (drop 8 es) (drop (4 * c .listed) (c .out)))) (one c)) (small-event (take 8 es) h k)
       ∙ pick-false _ _ _ (ne-eqb shortRoom 0 (λ z. omega arith))))
 
   pub run-small :

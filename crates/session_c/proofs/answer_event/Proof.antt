@@ -1,7 +1,7 @@
 -- Case by case. Assumes nothing.
 use mathlib.Core.Path.{sym, ap, _∙_}
 use Rattle.session.specs.declared.Answer.{Answer}
-use Rattle.session_c.specs.Exported.{numberOf, leftBy}
+use Rattle.session_c.specs.Exported.{numberOf, laidBy}
 use borrow.Author.Needs.{needs}
 use Rattle.session_c.proofs.answer_event.Statement.{statement}
 use Rattle.session_c.proofs.answer_event.Tie as tie
@@ -25,20 +25,20 @@ mul-result : tie.Need-mul-result
 mul-result c = search needs
 
 returns : tie.Need-returns
-unfolding numberOf leftBy
+unfolding numberOf laidBy
 returns c = let args = c .before .before .before .before .args in
-    let g = sym (c .before .answer .given .1) in (ap numberOf g, ap (λ (a : Answer). leftBy a (args .next) (args .room .now)) g)
+    let g = sym (c .before .answer .given .1) in (ap numberOf g, ap (λ (a : Answer). laidBy a (args .next) (args .room .now)) g)
 
 same-length : tie.Need-same-length
 same-length c = search needs
 
 returns-2 : tie.Need-returns-2
-unfolding numberOf leftBy
+unfolding numberOf laidBy
 returns-2 c = let at-put = c .before .before in
     let at-answer = at-put .before .before .before in
     let args = at-answer .before .before .before .args in
     let g = sym (at-answer .answer2 .given .1) in
-    (ap numberOf g, at-put .put-session .ensures ∙ ap (λ (a : Answer). leftBy a (args .next) (args .room .now)) g)
+    (ap numberOf g, at-put .put-session .ensures ∙ ap (λ (a : Answer). laidBy a (args .next) (args .room .now)) g)
 
 pub answer-event-spec : {M : Type 1} → statement M
 answer-event-spec =

@@ -15,7 +15,7 @@ use Rattle.query_c.specs.Packed.{packed}
 use Rattle.feed.specs.Fed.{fed}
 use Rattle.session.specs.declared.Session.{Session}
 use Rattle.session.specs.declared.Begun as given
-use Rattle.session.specs.declared.Step.{Step}
+use Rattle.session.specs.declared.Next.{Next}
 use Rattle.session.specs.declared.Ran.{Ran}
 use Rattle.session.specs.declared.Finish.{Finish}
 use Rattle.session.specs.Begin.{Begun, said, BeginGives}
@@ -25,7 +25,7 @@ use Rattle.session.specs.Event.Laws.{event-is, finish-is}
 use Rattle.session.specs.Run.{housed, eventAt, RunGives}
 use Rattle.session_c.specs.Laid.{sessionRoom, sessionIn, countsRoom, countBytes}
 use Rattle.session_c.specs.Exported.{Began, startedBy, beganWith, began, ExportBegins}
-use Rattle.session_c.specs.Exported.{Took, numberOf, leftBy, tookWith, took, ExportTakes}
+use Rattle.session_c.specs.Exported.{Took, numberOf, laidBy, tookWith, took, ExportTakes}
 use Rattle.session_c.specs.Exported.{Blocked, movedBy, blockedWith, blocked, ExportRuns}
 use Rattle.session_c.specs.Exported.{Finished, endNumber, countedBy, finished, ExportFinishes}
 
@@ -58,8 +58,8 @@ module _ (S bytes E N out : List ℕ) where
   takes-none f = sym (pick-false _ _ _ (ne-eqb _ _ f))
 
   pub takes-parts :
-      (s : Session) (d : Step) (r : ℕ) (S′ E′ N′ out′ : List ℕ) → length S ≡ sessionRoom → s ≡ sessionIn S →
-      EventGives s bytes E N out d E′ N′ out′ → r ≡ numberOf (d .answer) → S′ ≡ leftBy (d .answer) (d .session) S →
+      (s : Session) (d : Next) (r : ℕ) (S′ E′ N′ out′ : List ℕ) → length S ≡ sessionRoom → s ≡ sessionIn S →
+      EventGives s bytes E N out d E′ N′ out′ → r ≡ numberOf (d .answer) → S′ ≡ laidBy (d .answer) (d .session) S →
       ExportTakes S bytes E N out r S′ E′ N′ out′
   unfolding took
   takes-parts s d r S′ E′ N′ out′ long es g er eS =

@@ -136,19 +136,19 @@ join-requires c κs = let at-opening = c .before .before .before .before .before
           (at-opening .opening .ensures .0) (at-full .full .ensures) (at-if2 .if2 .left),
     )
 
-cast-given : tie.Need-cast-given
-cast-given c = let at-opening = c .before .before .before .before .before .before .before .before .before .before .before .before in
+cast-listed : tie.Need-cast-listed
+cast-listed c = let at-opening = c .before .before .before .before .before .before .before .before .before .before .before .before in
     let at-get2 = at-opening .before .before .before .before .before .before .before in
     let at-if1 = at-get2 .before .before .before .before in
     let at-refuse-open = at-if1 .before in
     let fits = at-refuse-open .refuse-open .ensures .1 (at-if1 .if1 .left) in
     omega (arith, held-is, at-opening .opening .ensures .1, at-get2 .get2 .ensures, fits .held)
 
-cast-given-2 : tie.Need-cast-given-2
-cast-given-2 c = search needs
+cast-listed-2 : tie.Need-cast-listed-2
+cast-listed-2 c = search needs
 
-add-given : tie.Need-add-given
-add-given c = let at-opening = c .before .before .before .before .before .before .before .before .before .before .before .before .before in
+add-listed : tie.Need-add-listed
+add-listed c = let at-opening = c .before .before .before .before .before .before .before .before .before .before .before .before .before in
     let at-get2 = at-opening .before .before .before .before .before .before .before in
     let at-if1 = at-get2 .before .before .before .before in
     let at-refuse-open = at-if1 .before in
@@ -223,9 +223,9 @@ open-spec =
     add-join
     cast-join
     join-requires
-    cast-given
-    cast-given-2
-    add-given
+    cast-listed
+    cast-listed-2
+    add-listed
     cast-count-open
     count-open-requires
     same-length-5

@@ -219,12 +219,12 @@ module _ (xs ys : List ℕ) (same : length ys ≡ length xs) (i : ℕ) where
   copy-done h e = sym (take-all i ys (omega arith)) ∙ e ∙ take-all i xs h
 
 pub refused-as :
-    (s : Stepped) (r : ℕ) (n : Numbers) (E : Elements) (N : Queue) (out : List ℕ) → s ≡ record { refusal = r; given = 0 } →
-    after (s .refusal) (s .given) n E N out ≡ refusedWith r n E N out
-refused-as s r n E N out e = ap (λ (t : Stepped). after (t .refusal) (t .given) n E N out) e
+    (s : Stepped) (r : ℕ) (n : Numbers) (E : Elements) (N : Queue) (out : List ℕ) → s ≡ record { refusal = r; listed = 0 } →
+    after (s .refusal) (s .listed) n E N out ≡ refusedWith r n E N out
+refused-as s r n E N out e = ap (λ (t : Stepped). after (t .refusal) (t .listed) n E N out) e
 
-pub zero-few : (s : Stepped) (r : ℕ) → s ≡ record { refusal = r; given = 0 } → 4 * s .given ≤ outputNeeded
-zero-few s r e = let z : s .given ≡ 0 = ap (λ (t : Stepped). t .given) e in omega arith
+pub zero-few : (s : Stepped) (r : ℕ) → s ≡ record { refusal = r; listed = 0 } → 4 * s .listed ≤ outputNeeded
+zero-few s r e = let z : s .listed ≡ 0 = ap (λ (t : Stepped). t .listed) e in omega arith
 
 -- an open
 
@@ -240,16 +240,16 @@ module _ (P : Plan) (x : ℕ) (n : Numbers) (E : Elements) (N : Queue) (out : Li
         pick-yes _ _ _ _ (eq-eqb _ _ (sym er ∙ z)) (pick-yes _ _ _ _ (sym (ap₂ (λ d h. overIn P x d h E N) ed eh) ∙ sym e ∙ t) refl)
 
     pub open-done :
-        (b : Bool) (o : Opened) (j : Joined) (number given : ℕ) (n′ : Numbers) → b ≡ overIn P x depth held E N → b ≡ false →
-        o ≡ openingIn P x depth held E N → number ≡ n .opened + 1 → given ≡ o .going .went + boolByte (o .going .all) →
-        j ≡ joined (o .going) held number (depth + 1) N out → n′ ≡ openNumbers n (j .held) given →
-        after 0 given n′ (o .elements) (j .queue) (j .out) ≡ onOpen P x n E N out
+        (b : Bool) (o : Opened) (j : Joined) (number listed : ℕ) (n′ : Numbers) → b ≡ overIn P x depth held E N → b ≡ false →
+        o ≡ openingIn P x depth held E N → number ≡ n .opened + 1 → listed ≡ o .going .went + boolByte (o .going .all) →
+        j ≡ joined (o .going) held number (depth + 1) N out → n′ ≡ openNumbers n (j .held) listed →
+        after 0 listed n′ (o .elements) (j .queue) (j .out) ≡ onOpen P x n E N out
     unfolding onOpen openTaken
-    open-done b o j number given n′ e f eo en eg ej em =
+    open-done b o j number listed n′ e f eo en eg ej em =
         let g : ℕ = o .going .went + boolByte (o .going .all) in
         pick-yes _ _ _ _ (eq-eqb _ _ (sym er ∙ z))
         (pick-no _ _ _ _ (sym (ap₂ (λ d h. overIn P x d h E N) ed eh) ∙ sym e ∙ f)
-        (ap (λ k. after 0 given k (o .elements) (j .queue) (j .out)) em
+        (ap (λ k. after 0 listed k (o .elements) (j .queue) (j .out)) em
         ∙ ap (λ k. after 0 k (openNumbers n (j .held) k) (o .elements) (j .queue) (j .out)) eg
         ∙ ap (openWith n o)
         (ej ∙ ap₂ (λ d h. joined (o .going) h number (d + 1) N out) ed eh ∙ ap (λ k. joined (o .going) (n .held) k (n .depth + 1) N out) en)

@@ -3,7 +3,7 @@ use borrow.Author.Needs.{needs}
 use native.Mathlib.Omega.{arith}
 use mathlib.Core.Path.{sym, _∙_}
 use lib.Seq.{length-take-le}
-use Rattle.lent.specs.Lent.Laws.{room-enough}
+use Rattle.lent.specs.Lent.Laws.{room-fits}
 use Rattle.meaning.specs.Limits.Laws.{elements-is, nodes-is}
 use Rattle.session.specs.Event.Laws.{event-lent, event-parts}
 use Rattle.session.proofs.Session.event.Statement.{statement}
@@ -59,7 +59,7 @@ returns-2 c = let at-if = c .before .before .before .before .before .before .bef
     let fits = at-if .before .refuse-lent .ensures .1 (at-if .if1 .left) in
     let args = at-if .before .before .before .before .before .before .args in
     event-parts (args .self) (args .bytes .now) (args .elements .now) (args .nodes .now) (args .out .now) _ _ _ _ _ _ _ elements-is nodes-is
-    (fits .wide) (room-enough _ _ (fits .room)) (c .before .before .before .before .before .before .within .ensures)
+    (fits .wide) (room-fits _ _ (fits .room)) (c .before .before .before .before .before .before .within .ensures)
 
 pub event-spec : {M : Type 1} → statement M
 event-spec =
