@@ -42,9 +42,10 @@ use Rattle.lines.specs.Put.Laws.{put-taken}
 use Rattle.lines.specs.Text.{linesOf, endLine, refusedAtLine, refusedLine}
 use Rattle.system.specs.declared.File.{File}
 use Rattle.system.specs.Marks.{FileOpened, FileClosed, ReadOver, WriteTold, ReadFull, received, nothing-yet, Delivered, delivered, none-yet}
-use Rattle.pick.specs.declared.State.{State}
-use Rattle.pick.specs.Line.{queryLine, finishLine, lastLine}
-use Rattle.pick.specs.State.{refusalOf, Streamed, EventsLined}
+use Rattle.closing.specs.Line.{queryLine, finishLine, lastLine}
+use Rattle.reads.specs.declared.State.{State}
+use Rattle.turns.specs.Turns.{refusalOf, Streamed}
+use Rattle.pick.specs.Events.{EventsLined}
 use Rattle.pick.specs.Program.{finishLineOf, lastLineBy, owedOutputBy, owedOutput, queryName, eventsName, Lined, Replied, Outcome}
 
 -- the last line
