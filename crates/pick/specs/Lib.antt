@@ -1,4 +1,2 @@
-pub mod Progress
-pub mod Line
 pub mod Program
-pub mod State
+pub mod Events

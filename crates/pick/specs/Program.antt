@@ -4,7 +4,6 @@
 --   textOf q w          all that is written for it: a line for each node listed, and the last line
 --   owedOutput qs es    all that is written for the files `query.rec`, whose bytes are qs, and `events.rec`, whose bytes are es;  owedOutputBy: by the
 --                       answer to the query
---   Failed              standard output did not take all that was handed to it
 --   queryName, eventsName     the files' names
 --   Read name bytes Same      a file of this name was opened and closed, and reads of it gave the bytes, up to its end or so far that whatever may
 --                             follow changes nothing: Same (bytes ++ more) for each more.  QueryRead, EventsRead q: what must not change
@@ -14,12 +13,11 @@
 --   Outcome             WHAT A RUN OF THE PROGRAM COMES TO: Completed or Failed
 --
 -- Assumes nothing. NOT here: what a stream of bytes comes to (crate meaning, Offering), the lines' bytes (crate lines, Text), what "given", "handed" and
--- "delivered" are (crate system, Marks).
+-- "delivered" are, and `Failed`, that standard output did not take all that was handed to it (crate system, Marks).
 pub mod Laws
 use Prim.Native.Nat.{ℕ, _+_}
 use mathlib.Core.Logic.{_⊎_}
 use mathlib.Core.Path.{_≡_}
-use mathlib.Core.Bool.{false}
 use mathlib.Core.List.{List, [], _∷_, _++_}
 use mathlib.Core.Option.{Option, none, some}
 use lib.ListN.{length, take}
@@ -34,7 +32,7 @@ use Rattle.query.specs.Answer.{Answer, admitted, refused, refusedAt, answerTo}
 use Rattle.query.specs.Decode.{decode}
 use Rattle.lines.specs.Text.{linesOf, endLine, refusedAtLine, refusedLine}
 use Rattle.system.specs.declared.File.{File}
-use Rattle.system.specs.Marks.{FileOpened, FileClosed, ReadOver, WriteTold, Received, Delivered}
+use Rattle.system.specs.Marks.{FileOpened, FileClosed, ReadOver, Received, Delivered, Failed}
 
 -- "`end N` with the number handed out"; "for refusal 8 the number of accepted events"
 unfoldable pub finishLineOf : Query → List Event → List ℕ
@@ -59,11 +57,6 @@ owedOutputBy (refusedAt n k) qs es = refusedAtLine n k
 
 abbrev pub owedOutput : List ℕ → List ℕ → List ℕ
 owedOutput qs es = owedOutputBy (answerTo qs) qs es
-
--- bytes that standard output did not take
-pub record Failed : Type 0 where
-  pub bytes : List ℕ
-  pub handed : WriteTold bytes false
 
 -- "query.rec" and "events.rec"
 abbrev pub queryName : List ℕ

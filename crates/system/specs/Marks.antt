@@ -7,6 +7,7 @@
 --   WriteTold bytes taken    the bytes were handed to standard output, and `taken` answers whether all were taken
 --   Received file bytes      the bytes are pieces, end to end, each of which a call gave
 --   Delivered bytes          the bytes are pieces, end to end, each of which was handed to standard output by a call, and taken
+--   Failed                   bytes were handed to standard output by a call, and not all were taken
 --   ReadAt file at l l′ r    one read of the file into l from at on, which gave r bytes and left l′
 --   ReadFull file l r        reads of the file into l from its start on, which gave r bytes
 --
@@ -17,7 +18,7 @@
 pub mod Seal
 use Prim.Native.Nat.{ℕ, _+_, _≤_, _<_}
 use mathlib.Core.Path.{_≡_}
-use mathlib.Core.Bool.{Bool, true}
+use mathlib.Core.Bool.{Bool, true, false}
 use mathlib.Core.List.{List, [], _++_}
 use lib.ListN.{length, take, drop}
 use Rattle.io.specs.Counts.{Counts}
@@ -45,6 +46,10 @@ pub data Received (file : File) : List ℕ → Type 0 where
 pub data Delivered : List ℕ → Type 0 where
   none-yet : Delivered []
   delivered : {before : List ℕ} → Delivered before → (bytes : List ℕ) → WriteTold bytes true → Delivered (before ++ bytes)
+
+pub record Failed : Type 0 where
+  pub bytes : List ℕ
+  pub handed : WriteTold bytes false
 
 pub record ReadAt (file : File) (at : ℕ) (l l′ : List ℕ) (r : ℕ) : Type 0 where
   pub given : ReadGave file (take r (drop at l′))

@@ -33,7 +33,7 @@ use Rattle.session.specs.declared.Finish.the-variants.{Refused, Ended}
 use Rattle.session.specs.declared.Start.{Start}
 use Rattle.session.specs.declared.Start.the-variants as started
 use Rattle.session.specs.declared.Begun.{Begun}
-use Rattle.session.specs.Begin.{said, answerOf, BeginGives}
+use Rattle.session.specs.Begin.{said, startAnswer, BeginGives}
 use Rattle.session.specs.Event.{finish}
 use Rattle.session.specs.Run.{Housed}
 use Rattle.promise.specs.Promise.{Of, begin-answer, ended-is, handed-is}
@@ -42,9 +42,10 @@ use Rattle.lines.specs.Put.Laws.{put-taken}
 use Rattle.lines.specs.Text.{linesOf, endLine, refusedAtLine, refusedLine}
 use Rattle.system.specs.declared.File.{File}
 use Rattle.system.specs.Marks.{FileOpened, FileClosed, ReadOver, WriteTold, ReadFull, received, nothing-yet, Delivered, delivered, none-yet}
-use Rattle.pick.specs.declared.State.{State}
-use Rattle.pick.specs.Line.{queryLine, finishLine, lastLine}
-use Rattle.pick.specs.State.{refusalOf, Streamed, EventsLined}
+use Rattle.closing.specs.Line.{queryLine, finishLine, lastLine}
+use Rattle.reads.specs.declared.State.{State}
+use Rattle.turns.specs.Turns.{refusalOf, Streamed}
+use Rattle.pick.specs.Events.{EventsLined}
 use Rattle.pick.specs.Program.{finishLineOf, lastLineBy, owedOutputBy, owedOutput, queryName, eventsName, Lined, Replied, Outcome}
 
 -- the last line
@@ -122,7 +123,7 @@ not-admitted (started.BadStep k) h e = let z : _≡_ {A = ℕ} 0 1 = cc in omega
 -- with enough room begin answers the query
 pub begin-checked :
     (query E N : List ℕ) (r : Begun) → elementsNeeded ≤ length E → nodesNeeded ≤ length N → BeginGives query E N r → said (r .answer) ≡ answerTo query
-unfolding answerOf
+unfolding startAnswer
 begin-checked query E N r longE longN g =
     begin-answer query E N r g ∙ pick-false (tooSmall (length E) (length N)) _ _ (not-small (length E) (length N) longE longN)
 
