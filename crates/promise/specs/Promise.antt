@@ -1,8 +1,6 @@
 -- What begin, event and finish give on a session that calls reach, in the words of the meaning: the links of the proof of Theorem.
 --
---   SameUsed l E N             the room E and N has the records in use as the room of l has them; the rest is anything
 --   Of b es l                  l is a session and its room after the query bytes b were admitted and the events es accepted by some calls
---   leftBy l E N s E′ N′       the session s and its room after an event that was lent E and N and left E′ and N′: room that is too small is not touched
 --   Given o bytes .. x d       d is what is owed where x is the first refusal that applies
 --   begin-of                   the session that begin gives beside an admitted query is one after no events, with any room
 --   event-given, event-of      an event gives the meaning's answer, and leads to a session after the events then accepted
@@ -23,7 +21,7 @@ use lib.ListN.{length, take, drop, take-append-drop}
 use borrow.Author.Tests.{eq-eqb, ne-eqb, ltb-false}
 use Rattle.choice.specs.Pick.{pick, pick-true, pick-false, pick-known, never}
 use Rattle.choice.specs.Count.{boolByte-read}
-use Rattle.meaning.specs.Limits.{elementRecord, waitingRecord, elementsNeeded, nodesNeeded, outputNeeded}
+use Rattle.meaning.specs.Limits.{elementsNeeded, nodesNeeded, outputNeeded}
 use Rattle.meaning.specs.Limits.Laws.{node-limit-is}
 use Rattle.meaning.specs.Refusals.{shortOutput, shortRoom, unfinished}
 use Rattle.meaning.specs.Query.{Query, admits}
@@ -77,10 +75,7 @@ use Rattle.session.specs.Event.{Done, refused, sessionNumbers, withNumbers, set
 use Rattle.session.specs.Event.Laws.{event-is}
 use Rattle.session.specs.Run.{Housed, housed}
 use Rattle.session.specs.Told.{told, ended}
-
-pub record SameUsed (l : Housed) (E N : List ℕ) : Type 0 where
-  pub elements : take (elementRecord * l .session .depth) E ≡ take (elementRecord * l .session .depth) (l .elements)
-  pub nodes : take (waitingRecord * l .session .held) N ≡ take (waitingRecord * l .session .held) (l .nodes)
+use Rattle.promise.specs.Lending.{SameUsed, leftBy}
 
 pub record Of (b : List ℕ) (es : List Event) (l : Housed) : Type 0 where
   pub bytes : Bytes b
@@ -89,9 +84,6 @@ pub record Of (b : List ℕ) (es : List Event) (l : Housed) : Type 0 where
   pub bounds : Bounded (decode b) es
   pub kept : keptIn (l .session .kept) ≡ plan (decode b)
   pub stands : StandsIn (decode b) (document es) (sessionNumbers (l .session)) (l .elements) (l .nodes)
-
-unfoldable pub leftBy : Housed → List ℕ → List ℕ → Session → List ℕ → List ℕ → Housed
-leftBy l E N s E′ N′ = pick (tooSmall (length E) (length N)) (housed s (l .elements) (l .nodes)) (housed s E′ N′)
 
 -- within the limits the lent records have room
 within-limits : (q : Query) → T (admits q) → length q ≤ 32 → (es : List Event) → Bounded q es → InLimits q (document es)

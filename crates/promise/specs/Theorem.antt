@@ -2,8 +2,8 @@
 --
 --   Use, Reply              an event with any bytes, any room and any buffer, or finish; the code's own reply, and all that was lent, on return
 --   Played l us rs k        the uses us of the session and room l got the replies rs and led to k: of each reply nothing is known but its entry point's
---                           promise, and of lent room that is not too small only that the records in use are those that the use before left (SameUsed):
---                           the rest of it is anything. Room that is too small is not touched, so the records stay where they were (leftBy)
+--                           promise, and of lent room that is not too small only that the records in use are those that the use before left (SameUsed, in
+--                           Lending): the rest of it is anything. Room that is too small is not touched, so the records stay where they were (leftBy)
 --   Reached b us rs l       begin admitted the bytes b, and its session was used so: l is a session and room that calls reach
 --   callOf, answerOf        a use as a call of the meaning; a reply as document 01's answer (`told`, `ended`)
 --   writtenIn r             the bytes of the list records at the start of the buffer that a reply left;  recordsBy a out: the same, by the answer a
@@ -61,7 +61,7 @@ use Rattle.session.specs.Begin.{said, BeginGives}
 use Rattle.session.specs.Event.{EventGives, FinishGives}
 use Rattle.session.specs.Run.{Housed, housed, RunGives}
 use Rattle.session.specs.Told.{told, ended}
-use Rattle.promise.specs.Promise.{SameUsed, leftBy}
+use Rattle.promise.specs.Lending.{SameUsed, leftBy}
 
 pub data Use : Type 0 where
   offer : (bytes E N out : List ℕ) → Use

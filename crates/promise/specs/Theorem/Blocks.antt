@@ -38,7 +38,8 @@ use Rattle.session.specs.declared.Ran.{Ran}
 use Rattle.session.specs.Event.{Done, sessionNumbers, settled, within, beside, toldOf, event, EventGives}
 use Rattle.session.specs.Run.{Housed, housed, refusalOf, listedOf, cameAs, eventAt, ran, RunGives}
 use Rattle.session.specs.Told.{told}
-use Rattle.promise.specs.Promise.{SameUsed, Of, leftBy, event-of, event-answered, event-written}
+use Rattle.promise.specs.Lending.{SameUsed, leftBy}
+use Rattle.promise.specs.Promise.{Of, event-of, event-answered, event-written}
 use Rattle.promise.specs.Theorem as theorem
 use Rattle.promise.specs.Theorem.{Use, offer, Reply, stepped, Played, unused, by-event, by-finish, Reached, answerOf, recordsBy, nodesOf}
 use Rattle.promise.specs.Theorem.{Offered, no-more, one-more, Answered, all-taken, then-refused, one-taken}

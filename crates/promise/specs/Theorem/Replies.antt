@@ -61,7 +61,8 @@ use Rattle.session.specs.Event.{Done, refused, sessionNumbers, settled, within,
 use Rattle.session.specs.Event.Laws.{event-is, event-one, finish-one}
 use Rattle.session.specs.Run.{Housed, housed}
 use Rattle.session.specs.Told.{told, ended}
-use Rattle.promise.specs.Promise.{SameUsed, Of, leftBy, room-long, begin-answer, begin-session, begin-of, ruled}
+use Rattle.promise.specs.Lending.{SameUsed, leftBy}
+use Rattle.promise.specs.Promise.{Of, room-long, begin-answer, begin-session, begin-of, ruled}
 use Rattle.promise.specs.Promise.{event-answered, event-of, event-written, finish-given, waiting-held, opened-is, handed-is, held-is}
 use Rattle.promise.specs.Theorem.Short.{event-short, event-small}
 use Rattle.promise.specs.Theorem.{Use, Reply, stepped, finish, Played, unused, by-event, by-finish, Reached}

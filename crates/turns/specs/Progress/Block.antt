@@ -41,7 +41,8 @@ use Rattle.session.specs.declared.Answer.the-variants.{Refused, Taken}
 use Rattle.session.specs.Event.{Done, toldOf, event}
 use Rattle.session.specs.Run.{Housed, housed, refusalOf, listedOf, cameAs, eventAt}
 use Rattle.session.specs.Told.{told}
-use Rattle.promise.specs.Promise.{SameUsed, Of, leftBy, room-long, Given, event-owed}
+use Rattle.promise.specs.Lending.{SameUsed, leftBy}
+use Rattle.promise.specs.Promise.{Of, room-long, Given, event-owed}
 use Rattle.promise.specs.Theorem.Replies.{same, event-long}
 use Rattle.promise.specs.Theorem.Blocks.{left-is, used-back, refused-some}
 use Rattle.turns.specs.Progress.{Progress}
