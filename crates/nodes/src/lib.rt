@@ -3,7 +3,7 @@ ghost use mathlib.Core.Path.{_≡_};
 ghost use mathlib.Core.Bool.{true, false};
 ghost use Prim.Native.Nat.{_+_, _*_, _≤_, _<_};
 ghost use lib.Dec.{eqb};
-ghost use lib.ListN.{length, take, drop};
+ghost use lib.ListN.{length, take};
 ghost use Rattle.meaning.specs.Limits.{depthLimit, heldLimit, elementsNeeded, nodesNeeded};
 ghost use Rattle.records.specs.Write.{buffer};
 ghost use Rattle.plan.specs.Plan.{up};

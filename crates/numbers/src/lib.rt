@@ -2,7 +2,7 @@
 ghost use mathlib.Core.Path.{_≡_};
 ghost use Prim.Native.Nat.{_<_};
 ghost use lib.ListN.{length};
-ghost use Rattle.words.specs.Records.{putAt, at};
+ghost use Rattle.words.specs.Records.{putAt};
 ghost use Rattle.numbers.specs.Numbers.{numbersRoom, shape, fieldOf, recordIn, numbersIn, numbersOf};
 
 // How many bytes they take.

@@ -17,7 +17,7 @@ use Rattle.choice.specs.Pick.{pick}
 use Rattle.meaning.specs.Limits.{depthLimit, elementRecord, elementsNeeded}
 use Rattle.engine.specs.Quick.{Frame}
 use Rattle.words.specs.Words.{words, Bytes}
-use Rattle.words.specs.Records.{setAt, room, withField, putAt, recordsIn, laid}
+use Rattle.words.specs.Records.{setAt, room, withField, putAt, laid}
 use Rattle.words.specs.Records.Laws as records
 use Rattle.words.specs.Records.Laws.{Whole}
 use Rattle.element.specs.Element.{frameOf, fieldOf, shape, Elements, elementsIn, frameAt, raisedIn, refreshedIn, openedIn}

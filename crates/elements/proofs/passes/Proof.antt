@@ -1,6 +1,5 @@
 -- The two cases of a name test. Assumes nothing.
 use mathlib.Core.Path.{refl}
-use lib.Dec.{eqb}
 use borrow.Author.Tests.{eq-eqb, ne-eqb}
 use Rattle.meaning.specs.Name.{passes}
 use Rattle.elements.proofs.passes.Statement.{statement}

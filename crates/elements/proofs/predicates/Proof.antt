@@ -1,6 +1,5 @@
 -- The definition: no digit of the meet is above that of m. Assumes nothing.
 use borrow.Author.Needs.{needs}
-use native.Mathlib.Omega.{arith}
 use mathlib.Core.Path.{ap}
 use lib.Bits.{bitAnd, and-le-l}
 use Rattle.sets.specs.Set.{without}

@@ -1,6 +1,5 @@
 -- What each call answered, put together (Elements.Laws, push-parts). Assumes nothing.
 use borrow.Author.Needs.{needs}
-use native.Mathlib.Omega.{arith}
 use Rattle.meaning.specs.Limits.{depthLimit}
 use Rattle.elements.specs.Elements.Laws.{push-parts}
 use Rattle.elements.proofs.push.Statement.{statement}

@@ -1,6 +1,5 @@
 -- Level 0 is the document, and level l has record l - 1. Assumes nothing.
 use borrow.Author.Needs.{needs}
-use native.Mathlib.Omega.{arith}
 use Rattle.choice.specs.Count.{positive}
 use Rattle.elements.specs.Elements.Laws.{sure-first, sure-other}
 use Rattle.elements.proofs.sure_at.Statement.{statement}

@@ -12,7 +12,7 @@ use native.Mathlib.Omega.{arith}
 use mathlib.Core.Path.{_≡_, refl, sym, ap, ap₂, _∙_}
 use mathlib.Core.List.{List, [], _∷_, _++_, map, append-assoc, append-nil, map-append}
 use lib.ListN.{length, getD, set, take, drop, length-append, length-map, take-append-drop, List·getD-map, List·getD-append}
-use lib.Seq.{take-suc, drop-cons, take-set-le, drop-set-lt, set-split, set-at, take-at, drop-at, length-take-le, drop-drop, getD-drop}
+use lib.Seq.{take-suc, drop-cons, take-set-le, drop-set-lt, set-split, set-at, take-at, drop-at, length-take-le}
 use Rattle.choice.specs.Count.{left, gone, down}
 use Rattle.meaning.specs.Limits.{depthLimit}
 use Rattle.sets.specs.Set.{join, meet, without}
@@ -21,7 +21,7 @@ use Rattle.engine.specs.Quick.{Frame, Rise, raised, rise, refreshed, refresh, f
 use Rattle.engine.specs.Quick.Snoc.{rise-snoc-stop, rise-snoc-on, rise-length}
 use Rattle.element.specs.Element.{Elements, elementsIn, noFrame, frameAt, raisedIn, refreshedIn, openedIn}
 use Rattle.element.specs.Element.Laws.{frames-length}
-use Rattle.elements.specs.Elements.{with, Risen, risenBy, risenIn, refreshedFrom, pushedBy, pushedIn}
+use Rattle.elements.specs.Elements.{with, Risen, risenBy, risenIn, refreshedFrom, pushedIn}
 
 -- the first j + 1 are the first j and one more
 snoc : (l : List Frame) (at : ℕ) → 0 < at → at ≤ length l → take at l ≡ take (at - 1) l ++ (getD l (at - 1) noFrame ∷ [])

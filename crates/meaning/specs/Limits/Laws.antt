@@ -5,7 +5,7 @@
 --   element-record-is, waiting-record-is        64 and 32 bytes;  records-small: at most 4,096
 --
 -- Assumes nothing.
-use Prim.Native.Nat.{ℕ, _+_, _*_, _≤_}
+use Prim.Native.Nat.{_≤_}
 use native.Mathlib.Omega.{arith}
 use mathlib.Core.Path.{_≡_, refl}
 use Rattle.meaning.specs.Limits.{depthLimit, heldLimit, nodeLimit, outputNeeded, elementRecord, waitingRecord, elementsNeeded, nodesNeeded}

@@ -17,7 +17,7 @@ use Rattle.choice.specs.Pick.{pick}
 use Rattle.meaning.specs.Limits.{heldLimit, waitingRecord, nodesNeeded}
 use Rattle.engine.specs.Quick.{Waiting}
 use Rattle.words.specs.Words.{words, Bytes}
-use Rattle.words.specs.Records.{setAt, room, withField, putAt, recordsIn, laid}
+use Rattle.words.specs.Records.{setAt, room, withField, putAt, laid}
 use Rattle.words.specs.Records.Laws as records
 use Rattle.words.specs.Records.Laws.{Whole}
 use Rattle.node.specs.Node.{waitingOf, fieldOf, shape, Queue, queueIn, nodeAt, wroteIn}

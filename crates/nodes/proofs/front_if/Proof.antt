@@ -1,8 +1,6 @@
 -- The two cases. Assumes nothing.
 use borrow.Author.Needs.{needs}
 use native.Mathlib.Omega.{arith}
-use mathlib.Core.Path.{refl, sym, ap, _∙_}
-use Rattle.engine.specs.Quick.{wentIf}
 use Rattle.nodes.specs.Nodes.Laws.{went-yes, went-no}
 use Rattle.nodes.proofs.front_if.Statement.{statement}
 use Rattle.nodes.proofs.front_if.Tie as tie

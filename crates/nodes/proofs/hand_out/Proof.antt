@@ -1,6 +1,5 @@
 -- What the calls give together. Assumes nothing.
 use borrow.Author.Needs.{needs}
-use native.Mathlib.Omega.{arith}
 use Rattle.nodes.specs.Nodes.Laws.{hand-none, hand-parts}
 use Rattle.nodes.proofs.hand_out.Statement.{statement}
 use Rattle.nodes.proofs.hand_out.Tie as tie

@@ -1,6 +1,5 @@
 -- The two cases. Assumes nothing.
 use borrow.Author.Needs.{needs}
-use native.Mathlib.Omega.{arith}
 use Rattle.meaning.specs.Limits.{heldLimit}
 use Rattle.nodes.specs.Nodes.Laws.{keep-yes, keep-no}
 use Rattle.nodes.proofs.keep_if.Statement.{statement}

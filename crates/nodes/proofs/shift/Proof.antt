@@ -4,7 +4,6 @@ use native.Mathlib.Omega.{arith}
 use Prim.Native.Nat.{_-_, _≤_}
 use mathlib.Core.Path.{_≡_, refl, _∙_}
 use lib.ListN.{length}
-use Rattle.meaning.specs.Limits.{heldLimit}
 use Rattle.node.specs.Node.{queueIn}
 use Rattle.nodes.specs.Nodes.{shifted}
 use Rattle.nodes.specs.Nodes.Laws.{shift-step, shift-done}

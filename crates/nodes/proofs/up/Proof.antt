@@ -1,10 +1,8 @@
 -- The two cases; in 32 bits a shifted need loses only what m has not. Assumes nothing.
 use borrow.Author.Needs.{needs}
-use native.Mathlib.Omega.{arith}
 use Prim.Native.Nat.{_*_, _%_, _^_}
 use mathlib.Core.Path.{ap, ap₂, sym, _∙_}
 use lib.Bits.{bitAnd, bitOr}
-use lib.Dec.{eqb}
 use borrow.Author.Tests.{eq-eqb, ne-eqb}
 use Rattle.plan.specs.Plan.{upIf, up}
 use Rattle.plan.specs.Plan.Laws.{up-narrow}

@@ -4,7 +4,6 @@ use native.Mathlib.Omega.{arith}
 use Prim.Native.Nat.{_-_, _≤_}
 use mathlib.Core.Path.{_≡_, refl}
 use lib.ListN.{length, take}
-use Rattle.meaning.specs.Limits.{heldLimit}
 use Rattle.records.specs.Write.{buffer}
 use Rattle.node.specs.Node.{queueIn}
 use Rattle.nodes.specs.Nodes.{numbers}

@@ -11,22 +11,22 @@
 --   join-all, join-alive, join-dead             all go; the new node joins; it is ruled out
 --
 -- Assumes nothing.
-use Prim.Native.Nat.{ℕ, zero, suc, pred, _+_, _-_, _*_, _≤_, _<_}
+use Prim.Native.Nat.{ℕ, suc, pred, _+_, _-_, _*_, _≤_, _<_}
 use native.Mathlib.Numerals.{add-one}
-use native.Mathlib.Nat.{add-zero, zero-add}
+use native.Mathlib.Nat.{add-zero}
 use native.Mathlib.Omega.{arith}
 use mathlib.Core.Path.{_≡_, refl, sym, ap, ap₂, _∙_}
 use mathlib.Core.Bool.{Bool, true, false, not}
-use mathlib.Core.List.{List, [], _∷_, _++_, map, append-assoc, append-nil, map-append}
+use mathlib.Core.List.{List, [], _∷_, _++_, map, append-assoc, map-append}
 use lib.Bits.{bitAnd, and-zero-l, and-zero-r}
 use lib.Dec.{eqb}
-use lib.ListN.{length, getD, set, take, drop, length-append, length-map, length-drop, drop-of-length-le, take-append-drop}
-use lib.ListN.{List·getD-map, List·getD-append, List·getD-eq-default}
-use lib.Seq.{sets, take-suc, take-suc-set, take-set-lt, drop-cons, take-set-le, drop-set-lt, set-split, take-at, drop-at, getD-at}
-use lib.Seq.{length-take-le, drop-drop, getD-take, take-take, take-all}
+use lib.ListN.{length, getD, set, take, drop, length-map, drop-of-length-le, take-append-drop}
+use lib.ListN.{List·getD-map, List·getD-eq-default}
+use lib.Seq.{sets, take-suc, take-suc-set, take-set-lt, drop-cons, drop-set-lt}
+use lib.Seq.{length-take-le, getD-take}
 use borrow.Author.Tests.{eq-eqb, ne-eqb}
-use Rattle.choice.specs.Pick.{pick, pick-true, pick-false, pick-yes, pick-no}
-use Rattle.choice.specs.Count.{left, gone, down}
+use Rattle.choice.specs.Pick.{pick, pick-yes, pick-no}
+use Rattle.choice.specs.Count.{down}
 use Rattle.meaning.specs.Limits.{depthLimit, heldLimit}
 use Rattle.sets.specs.Set.{overlaps}
 use Rattle.plan.specs.Plan.{Plan, lastGiven, up}
@@ -35,7 +35,7 @@ use Rattle.engine.specs.Quick.{Frame, Waiting, metAt, sureAt, certainIf, certai
 use Rattle.engine.specs.Quick.Snoc.{cut-snoc-on, cut-snoc-stop}
 use Rattle.records.specs.Write.{nodeBytes, buffer}
 use Rattle.records.specs.Write.Laws.{buffer-none, buffer-snoc}
-use Rattle.element.specs.Element.{Elements, elementsIn, noFrame, frameAt}
+use Rattle.element.specs.Element.{elementsIn, noFrame, frameAt}
 use Rattle.element.specs.Element.Laws.{frames-length}
 use Rattle.node.specs.Node.{Queue, queueIn, noNode, nodeAt, wroteIn}
 use Rattle.node.specs.Node.Laws.{nodes-length}

@@ -1,5 +1,4 @@
 -- `get` reads the number of its field. Assumes nothing.
-use borrow.Author.Needs.{needs}
 use native.Mathlib.Omega.{arith}
 use Rattle.numbers.specs.Numbers.Laws.{room-is, get-is}
 use Rattle.numbers.proofs.get.Statement.{statement}

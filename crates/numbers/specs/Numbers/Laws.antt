@@ -6,15 +6,15 @@
 --   numbers-same      bytes with the same numbers are the same
 --
 -- Assumes nothing.
-use Prim.Native.Nat.{ℕ, zero, suc, _+_, _*_, _<_}
+use Prim.Native.Nat.{ℕ, zero, suc, _<_}
 use native.Mathlib.Omega.{arith}
-use mathlib.Core.Path.{_≡_, refl, sym, ap, ap₂, _∙_}
+use mathlib.Core.Path.{_≡_, refl, sym, ap, _∙_}
 use mathlib.Core.List.{List, [], _∷_}
 use lib.ListN.{length, getD, set}
 use lib.Seq.{getD-set-same}
 use Rattle.choice.specs.Pick.{pick}
 use Rattle.words.specs.Words.{words, Bytes}
-use Rattle.words.specs.Rows.{rows, field}
+use Rattle.words.specs.Rows.{rows}
 use Rattle.words.specs.Records.{Records, setAt, blank, room, at, withField, putAt, recordsIn}
 use Rattle.words.specs.Records.Laws as records
 use Rattle.words.specs.Records.Laws.{Whole}

@@ -1,5 +1,4 @@
 -- `name` reads a row of its table. Assumes nothing.
-use borrow.Author.Needs.{needs}
 use native.Mathlib.Omega.{arith}
 use Rattle.plan_bytes.specs.Kept.Laws.{room-is, kept-size, name-is}
 use Rattle.plan_bytes.proofs.name.Statement.{statement}

@@ -1,5 +1,4 @@
 -- `steps` reads a set of steps. Assumes nothing.
-use borrow.Author.Needs.{needs}
 use native.Mathlib.Omega.{arith}
 use Rattle.plan_bytes.specs.Kept.Laws.{room-is, steps-is}
 use Rattle.plan_bytes.proofs.steps.Statement.{statement}

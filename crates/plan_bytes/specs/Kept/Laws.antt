@@ -6,19 +6,19 @@
 --   lay-parts, pack-is  all writes of `lay` and `pack`
 --
 -- Assumes nothing.
-use Prim.Native.Nat.{ℕ, zero, suc, _+_, _-_, _*_, _≤_, _<_, min}
+use Prim.Native.Nat.{ℕ, zero, suc, _+_, _-_, _≤_, _<_}
 use native.Mathlib.Omega.{arith}
 use mathlib.Core.Path.{_≡_, refl, sym, ap, ap₂, _∙_, subst}
 use mathlib.Core.List.{List, [], _∷_, _++_}
-use lib.ListN.{length, getD, set, take, drop, replicate, length-replicate}
-use lib.Seq.{sets, sets-eq, length-sets}
+use lib.ListN.{length, getD, set, replicate}
+use lib.Seq.{sets}
 use Rattle.plan.specs.declared.Plan as struct
 use Rattle.plan.specs.Plan.{Plan}
 use Rattle.plan.specs.Planned.{sizeOf}
 use Rattle.words.specs.Words.{words, bytesOf, Bytes}
 use Rattle.words.specs.Words.Laws.{bytes-words}
 use Rattle.words.specs.Rows.{rows, rows-length, rows-at}
-use Rattle.plan_bytes.specs.Kept.{planRoom, tableAt, keptOf, keptIn, setOf, slots, packedOver, packed}
+use Rattle.plan_bytes.specs.Kept.{planRoom, keptIn, setOf, slots, packedOver, packed}
 
 pub steps-is : (bs : List ℕ) (which r : ℕ) → 0 < which → which < 5 → r ≡ getD (words bs) which 0 → r ≡ setOf which (keptIn bs)
 unfolding keptIn

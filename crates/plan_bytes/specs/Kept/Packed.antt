@@ -3,10 +3,10 @@
 --   kept-packed     the plan that the bytes of a packed plan stand for is that plan
 --
 -- Assumes that the plan has at most 32 steps, what hangs on each, and numbers under 2 ^ 32.
-use Prim.Native.Nat.{ℕ, zero, suc, _+_, _-_, _*_, _≤_, _<_, min}
+use Prim.Native.Nat.{ℕ, zero, suc, _+_, _-_, _≤_, _<_}
 use native.Mathlib.Nat.{min-eq-left}
 use native.Mathlib.Omega.{arith}
-use mathlib.Core.Path.{_≡_, refl, sym, ap, ap₂, _∙_}
+use mathlib.Core.Path.{_≡_, refl, sym, ap, _∙_}
 use mathlib.Core.List.{List, [], _∷_, _++_}
 use lib.ListN.{length, getD, set, replicate, length-replicate, List·getD-append}
 use lib.Seq.{sets, length-sets, getD-set-same, getD-set-other}

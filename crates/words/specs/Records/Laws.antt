@@ -23,7 +23,7 @@ use borrow.Author.Tests.{eqb-true, eqb-false, lt-ltb, le-ltb}
 use Rattle.choice.specs.Pick.{pick, pick-yes, pick-no}
 use Rattle.words.specs.Words.{words, bytesOf, Bytes}
 use Rattle.words.specs.Words.Laws.{words-length, bytes-words, bytes-length}
-use Rattle.words.specs.Rows.{rows, field, rows-length, rows-at, rows-same, rows-put, is-rows, field-put, field-other}
+use Rattle.words.specs.Rows.{field, rows-length, rows-at, rows-same, rows-put, is-rows, field-put, field-other}
 use Rattle.words.specs.Records.{Shape, Records, setAt, room, blank, withField, spareOf, recordsOf, recordsIn, at, putAt, numberAt, laidNumbers, laid}
 
 pub record Whole {A : Type 0} (S : Shape A) : Type 0 where
