@@ -22,7 +22,8 @@ use Rattle.records.specs.Write.{buffer}
 use Rattle.element.specs.Element.{Elements}
 use Rattle.node.specs.Node.{Queue}
 use Rattle.numbers.specs.Numbers.{Numbers}
-use Rattle.step.specs.Step.{usedIn, overIn, After}
+use Rattle.opening.specs.Opening.{usedIn, overIn}
+use Rattle.step.specs.Step.{After}
 
 unfoldable pub stateIn : Numbers → Elements → Queue → State
 stateIn n E N =

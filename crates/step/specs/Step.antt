@@ -1,68 +1,33 @@
 -- What one event does to the session's numbers, both lent rooms and the buffer, for all their values: the engine's own functions (crate engine, Quick) on
 -- the records in use, the others as they were.
 --
---   usedIn depth held E N     the engine's state of the records in use
---   goingOf o                 which nodes go at the opening o
---   Opened, openingIn P x depth held E N       an opening of x: which nodes go, and the open elements
---   allGo, noPlace            all that wait go, and the new node with them; the new node has no place
---   overIn P x depth held E N      an opening of x leaves more nodes waiting than there are records
 --   After, after              what an event comes to: its refusal, or 0, how many nodes were handed out, and all that was lent
 --   refusedWith r n E N out   a refusal: all as it was
 --   movedOut P depth held E N      the nodes that wait at the innermost of `depth` elements move up out of it or leave
 --   openTaken, closeTaken     an open and a close that nothing refuses;  onOpen, onClose: any open and close of x
 --   step P e n E N out        the event e
 --
--- Assumes nothing. NOT here: the refusals by the numbers, and the numbers afterwards (crate tally); that this is the engine's event on the state that the rooms
--- hold (crate right).
+-- Assumes nothing. NOT here: the refusals by the numbers, and the numbers afterwards (crate tally); an open before anything is handed out (crate opening); that
+-- this is the engine's event on the state that the rooms hold (crate right).
 pub mod Laws
 pub mod Left
 use Prim.Native.Nat.{ℕ, _+_, _-_}
-use mathlib.Core.Bool.{Bool, false}
-use mathlib.Core.List.{List, _++_}
+use mathlib.Core.List.{List}
 use mir.Val.{boolByte}
-use lib.Dec.{eqb, leb, ltb}
-use lib.ListN.{length, take, drop}
+use lib.Dec.{eqb, ltb}
+use lib.ListN.{length, take}
 use Rattle.choice.specs.Pick.{pick}
-use Rattle.meaning.specs.Limits.{heldLimit}
 use Rattle.meaning.specs.Refusals.{badRecord, tooManyHeld}
 use Rattle.records.specs.declared.Event.{Event}
 use Rattle.records.specs.declared.Event.the-variants.{Open, Close, Bad}
 use Rattle.plan.specs.Plan.{Plan}
-use Rattle.engine.specs.Quick.{State, Opening, opening, over, possibleAt, cut, wentIf}
+use Rattle.engine.specs.Quick.{possibleAt, cut, wentIf}
 use Rattle.element.specs.Element.{Elements, frameAt}
-use Rattle.elements.specs.Elements as elements
 use Rattle.node.specs.Node.{Queue}
-use Rattle.nodes.specs.declared.Going.{Going}
 use Rattle.nodes.specs.Nodes.{levelOf, Moved, movedFrom, Handed, handedOut, Joined, joined}
 use Rattle.numbers.specs.Numbers.{Numbers}
+use Rattle.opening.specs.Opening.{Opened, openingIn, overIn}
 use Rattle.tally.specs.Tally.{refuseOpen, refuseClose, openNumbers, closeNumbers}
-
-unfoldable pub usedIn : ℕ → ℕ → Elements → Queue → State
-usedIn depth held E N = record { frames = take depth (E .list); queue = take held (N .list); opened = 0; handed = 0; ended = false }
-
-unfoldable pub goingOf : Opening → Going
-goingOf o = record { went = o .went; all = o .all; joins = o .joins }
-
-pub record Opened : Type 0 where
-  pub going : Going
-  pub elements : Elements
-
--- by what the opening comes to
-abbrev pub openedBy : ℕ → Elements → Opening → Opened
-openedBy depth E o = record { going = goingOf o; elements = elements.with (o .frames ++ drop (depth + 1) (E .list)) E }
-
-unfoldable pub openingIn : Plan → ℕ → ℕ → ℕ → Elements → Queue → Opened
-openingIn P x depth held E N = openedBy depth E (opening P x (usedIn depth held E N))
-
-unfoldable pub allGo : ℕ → ℕ → Bool → Bool
-allGo went held certain = pick certain (eqb went held) false
-
-unfoldable pub noPlace : Bool → Bool → ℕ → ℕ → Bool
-noPlace all joins went held = pick all false (pick joins (leb heldLimit (held - went)) false)
-
--- "7: an open after which more than 1,024 nodes would be held"
-unfoldable pub overIn : Plan → ℕ → ℕ → ℕ → Elements → Queue → Bool
-overIn P x depth held E N = over heldLimit (usedIn depth held E N) (opening P x (usedIn depth held E N))
 
 pub record After : Type 0 where
   pub refusal : ℕ

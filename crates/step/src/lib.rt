@@ -7,13 +7,11 @@ ghost use Rattle.meaning.specs.Record.{eventOf};
 ghost use Rattle.meaning.specs.Limits.{depthLimit, heldLimit, outputNeeded, elementsNeeded, nodesNeeded};
 ghost use Rattle.records.specs.Read.{shown};
 ghost use Rattle.engine.specs.Quick.{opening};
-ghost use Rattle.plan.specs.Plan.{named};
 ghost use Rattle.element.specs.Element.{elementsIn};
 ghost use Rattle.node.specs.Node.{queueIn};
 ghost use Rattle.plan_bytes.specs.Kept.{planRoom, keptIn};
 ghost use Rattle.numbers.specs.Numbers.{numbersRoom, numbersIn};
-ghost use Rattle.step.specs.Step.{openingIn, allGo, noPlace, overIn, movedOut, after, onOpen, onClose, step};
-use nodes::Going;
+ghost use Rattle.step.specs.Step.{movedOut, after, onOpen, onClose, step};
 use records::Event;
 
 // What an event comes to: its refusal, or 0, and how many nodes were handed out.
@@ -29,98 +27,6 @@ fn refused(refusal: u8) -> Stepped
         refusal: refusal,
         listed: 0,
     }
-}
-
-// Whether all that wait go, and the new node with them.
-fn all_go(went: usize, held: usize, certain: bool) -> bool
-    ensures { λ r. ⌜ r ≡ allGo went held certain ⌝ }
-{
-    if certain {
-        return went == held;
-    }
-    false
-}
-
-// An element named `x` opens under `depth` others: which nodes go.
-fn opening(
-    kept: &[u8],
-    x: u32,
-    depth: usize,
-    held: usize,
-    elements: &mut [u8],
-    nodes: &[u8],
-) -> Going
-    requires { ⌜ (length (now kept) ≡ planRoom) × ((length (now elements) ≡ elementsNeeded) × (length (now nodes) ≡ nodesNeeded)) ⌝ }
-    requires { ⌜ (depth < depthLimit) × (held ≤ heldLimit) ⌝ }
-    ensures { λ r. ⌜ record { going = r; elements = elementsIn (now (elements .exit)) }
-        ≡ openingIn (keptIn (now (kept .entry))) x depth held (elementsIn (now (elements .entry))) (queueIn (now (nodes .entry))) ⌝ }
-    ensures { λ r. ⌜ r .went ≤ held ⌝ }
-{
-    let pass = elements::named(kept, x);
-    let joins = elements::last_given(pass, elements::possible_at(kept, &*elements, depth));
-    let top = elements::push(kept, elements, x, pass, depth);
-    let went = nodes::front_if(top < depth, kept, &*elements, depth + 1, nodes, held);
-    let met = pass & plan_bytes::steps(kept, plan_bytes::PLAIN);
-    let certain = elements::last_given(met, elements::sure_at(kept, &*elements, depth));
-    let all = all_go(went, held, certain);
-    Going {
-        went: went,
-        all: all,
-        joins: joins,
-    }
-}
-
-fn copy(from: &[u8], to: &mut [u8])
-    requires { ⌜ length (now from) ≡ length (now to) ⌝ }
-    ensures { λ r. ⌜ now (to .exit) ≡ now (from .entry) ⌝ }
-{
-    let n = from.len();
-    let mut i: usize = 0;
-    while i < n {
-        to[i] = from[i];
-        i += 1;
-    }
-}
-
-// Whether the new node neither goes nor is ruled out, and all places are taken.
-fn no_place(go: Going, held: usize) -> bool
-    requires { ⌜ go .went ≤ held ⌝ }
-    ensures { λ r. ⌜ r ≡ noPlace (go .all) (go .joins) (go .went) held ⌝ }
-{
-    if go.all {
-        return false;
-    }
-    if go.joins {
-        return limits::HELD <= held - go.went;
-    }
-    false
-}
-
-// Whether an open would find no place, told on a copy of the open elements, so that a refused open leaves them as they were.
-fn brim(kept: &[u8], x: u32, depth: usize, held: usize, elements: &[u8], nodes: &[u8]) -> bool
-    requires { ⌜ (length (now kept) ≡ planRoom) × ((length (now elements) ≡ elementsNeeded) × (length (now nodes) ≡ nodesNeeded)) ⌝ }
-    requires { ⌜ (depth < depthLimit) × (held ≤ heldLimit) ⌝ }
-    ensures { λ r. ⌜ r ≡ overIn (keptIn (now (kept .entry))) x depth held (elementsIn (now (elements .entry))) (queueIn (now (nodes .entry))) ⌝ }
-{
-    let pass = elements::named(kept, x);
-    if !elements::last_given(pass, elements::possible_at(kept, elements, depth)) {
-        return false;
-    }
-    let mut trial = [0u8; 16384];
-    copy(elements, &mut trial);
-    no_place(opening(kept, x, depth, held, &mut trial, nodes), held)
-}
-
-// The same: below the brim no open is refused for want of a place.
-fn full(kept: &[u8], x: u32, depth: usize, held: usize, elements: &[u8], nodes: &[u8]) -> bool
-    requires { ⌜ (length (now kept) ≡ planRoom) × ((length (now elements) ≡ elementsNeeded) × (length (now nodes) ≡ nodesNeeded)) ⌝ }
-    requires { ⌜ (depth < depthLimit) × (held ≤ heldLimit) ⌝ }
-    ensures { λ r. ⌜ r ≡ overIn (keptIn (now (kept .entry))) x depth held (elementsIn (now (elements .entry))) (queueIn (now (nodes .entry))) ⌝ }
-{
-    if held < limits::HELD {
-        return false;
-    }
-    brim(kept, x, depth, held, elements, nodes)
 }
 
 // The nodes that wait at the innermost of `depth` elements move up out of it or leave. Returns how many nodes wait.
@@ -161,10 +67,10 @@ fn open(
     }
     let depth = numbers::get(&*numbers, numbers::DEPTH) as usize;
     let held = numbers::get(&*numbers, numbers::HELD) as usize;
-    if full(kept, x, depth, held, &*elements, &*nodes) {
+    if opening::full(kept, x, depth, held, &*elements, &*nodes) {
         return refused(limits::TOO_MANY_HELD);
     }
-    let go = opening(kept, x, depth, held, elements, &*nodes);
+    let go = opening::opening(kept, x, depth, held, elements, &*nodes);
     let number = numbers::get(&*numbers, numbers::OPENED) + 1;
     let rest = nodes::join(go, held, number, (depth + 1) as u32, nodes, out);
     let listed = go.went as u32 + go.all as u32;

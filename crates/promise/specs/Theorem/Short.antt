@@ -29,7 +29,8 @@ use Rattle.element.specs.Element.{Elements, elementsIn}
 use Rattle.node.specs.Node.{Queue, queueIn}
 use Rattle.numbers.specs.Numbers.{Numbers}
 use Rattle.tally.specs.Tally.{refuseOpen, refuseClose}
-use Rattle.step.specs.Step.{overIn, After, refusedWith, openTaken, onOpen, closeTaken, onClose, step}
+use Rattle.opening.specs.Opening.{overIn}
+use Rattle.step.specs.Step.{After, refusedWith, openTaken, onOpen, closeTaken, onClose, step}
 use Rattle.feed.specs.Fed.{Came}
 use Rattle.feed.specs.Steps.{Seat, seat, cameTo, stepAt}
 use Rattle.session.specs.declared.Session.{Session}

@@ -9,7 +9,8 @@ use Rattle.element.specs.Element.{elementsIn}
 use Rattle.node.specs.Node.{queueIn}
 use Prim.Native.Nat.{_+_}
 use Rattle.plan_bytes.specs.Kept.{keptIn}
-use Rattle.step.specs.Step.Laws.{has-place, refused-as, zero-few, open-refused, open-full, open-done}
+use Rattle.opening.specs.Opening.Laws.{has-place}
+use Rattle.step.specs.Step.Laws.{refused-as, zero-few, open-refused, open-full, open-done}
 use Rattle.step.proofs.open.Statement.{statement}
 use Rattle.step.proofs.open.Tie as tie
 

@@ -19,7 +19,8 @@ use Rattle.element.specs.Element.{Elements}
 use Rattle.node.specs.Node.{Queue}
 use Rattle.numbers.specs.Numbers.{Numbers}
 use Rattle.tally.specs.Tally.{refuseOpen, refuseClose, openNumbers, closeNumbers}
-use Rattle.step.specs.Step.{overIn, After, refusedWith, openTaken, onOpen, closeTaken, onClose, step}
+use Rattle.opening.specs.Opening.{overIn}
+use Rattle.step.specs.Step.{After, refusedWith, openTaken, onOpen, closeTaken, onClose, step}
 
 module _ (P : Plan) (n : Numbers) (E : Elements) (N : Queue) (out : List ℕ) where
   Kept : After → Type 0

@@ -3,9 +3,9 @@ use borrow.Author.Needs.{needs}
 use mathlib.Core.Path.{refl}
 use Rattle.choice.specs.Pick.{pick-yes, pick-no}
 use Rattle.meaning.specs.Limits.{heldLimit}
-use Rattle.step.specs.Step.{noPlace}
-use Rattle.step.proofs.no_place.Statement.{statement}
-use Rattle.step.proofs.no_place.Tie as tie
+use Rattle.opening.specs.Opening.{noPlace}
+use Rattle.opening.proofs.no_place.Statement.{statement}
+use Rattle.opening.proofs.no_place.Tie as tie
 
 returns : tie.Need-returns
 unfolding noPlace

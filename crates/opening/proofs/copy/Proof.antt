@@ -4,9 +4,9 @@ use native.Mathlib.Omega.{arith}
 use Prim.Native.Nat.{_-_, _≤_}
 use mathlib.Core.Path.{_≡_, refl}
 use lib.ListN.{length, take}
-use Rattle.step.specs.Step.Laws.{copy-step, copy-done}
-use Rattle.step.proofs.copy.Statement.{statement}
-use Rattle.step.proofs.copy.Tie as tie
+use Rattle.opening.specs.Opening.Laws.{copy-step, copy-done}
+use Rattle.opening.proofs.copy.Statement.{statement}
+use Rattle.opening.proofs.copy.Tie as tie
 
 abbrev Inv-loop : tie.InvT-loop
 Inv-loop from to₀ n i₀ to i = (i ≤ n) × ((length to ≡ length from) × (take i to ≡ take i from))

@@ -1,9 +1,9 @@
 -- The two cases. Assumes nothing.
 use mathlib.Core.Path.{refl}
 use Rattle.choice.specs.Pick.{pick-yes, pick-no}
-use Rattle.step.specs.Step.{allGo}
-use Rattle.step.proofs.all_go.Statement.{statement}
-use Rattle.step.proofs.all_go.Tie as tie
+use Rattle.opening.specs.Opening.{allGo}
+use Rattle.opening.proofs.all_go.Statement.{statement}
+use Rattle.opening.proofs.all_go.Tie as tie
 
 returns : tie.Need-returns
 unfolding allGo

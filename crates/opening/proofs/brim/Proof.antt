@@ -4,9 +4,9 @@ use native.Mathlib.Omega.{arith}
 use borrow.Author.Tests.{not-true}
 use mathlib.Core.Path.{sym, _∙_}
 use Rattle.meaning.specs.Limits.Laws.{elements-is}
-use Rattle.step.specs.Step.Laws.{over-dead, over-copied}
-use Rattle.step.proofs.brim.Statement.{statement}
-use Rattle.step.proofs.brim.Tie as tie
+use Rattle.opening.specs.Opening.Laws.{over-dead, over-copied}
+use Rattle.opening.proofs.brim.Statement.{statement}
+use Rattle.opening.proofs.brim.Tie as tie
 
 named-requires : tie.Need-named-requires
 named-requires c κs = search needs

@@ -2,9 +2,9 @@
 use borrow.Author.Needs.{needs}
 use native.Mathlib.Omega.{arith}
 use Rattle.meaning.specs.Limits.Laws.{held-is}
-use Rattle.step.specs.Step.Laws.{over-not}
-use Rattle.step.proofs.full.Statement.{statement}
-use Rattle.step.proofs.full.Tie as tie
+use Rattle.opening.specs.Opening.Laws.{over-not}
+use Rattle.opening.proofs.full.Statement.{statement}
+use Rattle.opening.proofs.full.Tie as tie
 
 returns : tie.Need-returns
 returns c = let start = c .before .before .before .before in

@@ -1,9 +1,9 @@
--- What each call answered, put together (Step.Laws, opening-told). Assumes nothing.
+-- What each call answered, put together (Opening.Laws, opening-told). Assumes nothing.
 use borrow.Author.Needs.{needs}
 use Rattle.meaning.specs.Limits.{depthLimit}
-use Rattle.step.specs.Step.Laws.{opening-told}
-use Rattle.step.proofs.opening.Statement.{statement}
-use Rattle.step.proofs.opening.Tie as tie
+use Rattle.opening.specs.Opening.Laws.{opening-told}
+use Rattle.opening.proofs.opening.Statement.{statement}
+use Rattle.opening.proofs.opening.Tie as tie
 
 named-requires : tie.Need-named-requires
 named-requires c κs = search needs
