@@ -13,11 +13,11 @@ use mathlib.Core.Path.{_≡_, refl, sym, ap, _∙_}
 use mathlib.Core.Bool.{Bool, true, false, not}
 use mathlib.Core.List.{List}
 use lib.Dec.{eqb, ltb}
-use lib.ListN.{length, take}
+use lib.ListN.{length}
 use borrow.Author.Tests.{eqb-true, eq-eqb, ne-eqb}
 use Rattle.choice.specs.Pick.{pick, pick-true, pick-false, pick-ap, pick-either, never}
 use Rattle.meaning.specs.Answer.{tooSmall}
-use Rattle.meaning.specs.Limits.{outputNeeded, elementsNeeded, nodesNeeded}
+use Rattle.meaning.specs.Limits.{outputNeeded}
 use Rattle.meaning.specs.Record.{eventOf}
 use Rattle.meaning.specs.Refusals.{shortOutput, shortRoom, badRecord}
 use Rattle.meaning.specs.Refusals as refusals
@@ -33,7 +33,7 @@ use Rattle.step.specs.Step.{After, onOpen, onClose, step}
 use Rattle.step.specs.Step.Left.{ended-said}
 use Rattle.feed.specs.Fed.{Came}
 use Rattle.feed.specs.Steps.{Seat, seat, cameTo, stepAt}
-use Rattle.offer.specs.Offer.{offered}
+use Rattle.offer.specs.Offer.{needed, offered}
 
 abbrev pub ending : ℕ → Numbers → Numbers
 ending k n = numbersOf (n .depth) (n .held) (n .opened) (n .handed) k
@@ -89,13 +89,10 @@ module _ (P : Plan) (s : Seat) (bytes out : List ℕ) where
 -- an event
 
 module _ (P : Plan) (s : Seat) (bytes out : List ℕ) where
-  abbrev needed : Seat
-  needed = seat (s .numbers) (take elementsNeeded (s .elements)) (take nodesNeeded (s .nodes))
-
   pub offered-said : s .numbers .ended ≤ 1 → offered P s bytes out .seat .numbers .ended ≤ 1
   unfolding offered
   offered-said said =
-      pick-either Said _ _ _ said (pick-either Said _ _ _ said (at-said P needed bytes out said))
+      pick-either Said _ _ _ said (pick-either Said _ _ _ said (at-said P (needed s) bytes out said))
     where
       Said : Came Seat → Type 0
       Said c = c .seat .numbers .ended ≤ 1
@@ -111,7 +108,7 @@ module _ (P : Plan) (s : Seat) (bytes out : List ℕ) where
       pick-ap (λ (c : Came Seat). c .refusal) _ _ _
       ∙ ap (pick (ltb (length out) outputNeeded) shortOutput)
       (pick-ap (λ (c : Came Seat). c .refusal) _ _ _
-      ∙ ap (pick (tooSmall (length (s .elements)) (length (s .nodes))) shortRoom) (at-after P needed bytes out over))
+      ∙ ap (pick (tooSmall (length (s .elements)) (length (s .nodes))) shortRoom) (at-after P (needed s) bytes out over))
 
   some-lowest : eqb lowest 0 ≡ false
   some-lowest =

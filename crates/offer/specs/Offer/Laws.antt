@@ -2,27 +2,32 @@
 --
 --   offer-lent            refusals 1 and 15, by the lengths of what is lent
 --   offer-parts           any other answer, by the parts of the room that were lent on
+--   offered-long          on longer room: a step, and the bytes past the needed ones as they were
 --   offered-refused       a refused event leaves all as it was
 --   offer-one             two results that the promise allows are equal, and so is all that was lent
 --
 -- What is large is given explicitly. Assumes nothing.
 use Prim.Native.Nat.{ℕ, _≤_}
+use native.Mathlib.Omega.{arith}
 use mathlib.Core.Path.{_≡_, refl, sym, ap, ap₂, _∙_}
 use mathlib.Core.Bool.{Bool, true, false}
 use mathlib.Core.List.{List, _++_}
-use lib.ListN.{length, take, drop, take-append-drop}
+use lib.ListN.{length, take, drop, take-append-drop, length-append}
+use lib.Seq.{take-at, drop-at}
 use borrow.Author.Tests.{le-ltb}
-use Rattle.choice.specs.Pick.{pick, pick-no, pick-either}
+use Rattle.choice.specs.Pick.{pick, pick-false, pick-no, pick-either}
 use Rattle.lent.specs.Lent.{refuseRoom, refuseLent}
 use Rattle.meaning.specs.Answer.{tooSmall}
+use Rattle.meaning.specs.Answer.Laws.{not-small}
 use Rattle.meaning.specs.Limits.{outputNeeded, elementsNeeded, nodesNeeded}
 use Rattle.meaning.specs.Refusals.{shortOutput, shortRoom}
 use Rattle.plan.specs.Plan.{Plan}
 use Rattle.step.specs.declared.Stepped.{Stepped}
 use Rattle.feed.specs.Fed.{Came}
+use Rattle.feed.specs.Fed.Across.{across}
 use Rattle.feed.specs.Steps.{Seat, seat, came, stepAt}
 use Rattle.feed.specs.Steps.Laws.{refused-at}
-use Rattle.offer.specs.Offer.{beside, offered, OfferGives}
+use Rattle.offer.specs.Offer.{needed, longer, beside, offered, OfferGives}
 
 -- by the tests of what is lent
 
@@ -49,19 +54,28 @@ pub offer-parts :
     ≡ offered P s bytes out
 unfolding offered
 offer-parts P s bytes out c k l ek el h f e =
-    ap₂ (λ i j. came (c .refusal) (c .listed) (seat (c .seat .numbers) (c .seat .elements ++ drop i (s .elements)) (c .seat .nodes ++ drop j (s .nodes)))
-    (c .out)) (sym ek) (sym el)
-    ∙ pick-no _ (beside (s .elements) (s .nodes) c) _ _ (le-ltb _ _ h)
-    (pick-no _ (beside (s .elements) (s .nodes) c) _ _ f
-    (ap (beside (s .elements) (s .nodes))
-    (e ∙ ap₂ (λ i j. stepAt P (seat (s .numbers) (take i (s .elements)) (take j (s .nodes))) bytes out) (sym ek) (sym el))))
+    ap₂ (λ i j. across (longer (drop i (s .elements)) (drop j (s .nodes))) c) (sym ek) (sym el)
+    ∙ pick-no _ (beside s c) _ _ (le-ltb _ _ h)
+    (pick-no _ (beside s c) _ _ f
+    (ap (beside s) (e ∙ ap₂ (λ i j. stepAt P (seat (s .numbers) (take i (s .elements)) (take j (s .nodes))) bytes out) (sym ek) (sym el))))
+
+-- on longer room
+pub offered-long :
+    (P : Plan) (s : Seat) (A B bytes out : List ℕ) → length (s .elements) ≡ elementsNeeded → length (s .nodes) ≡ nodesNeeded →
+    outputNeeded ≤ length out → offered P (longer A B s) bytes out ≡ across (longer A B) (stepAt P s bytes out)
+unfolding offered
+offered-long P s A B bytes out longE longN h =
+    pick-false _ _ _ (le-ltb _ _ h)
+    ∙ pick-false _ _ _
+    (not-small _ _ (omega (arith, length-append (s .elements) A, longE)) (omega (arith, length-append (s .nodes) B, longN)))
+    ∙ ap₂ (λ (X Y : List ℕ). beside (longer A B s) (stepAt P (seat (s .numbers) X Y) bytes out))
+    (take-at (s .elements) A elementsNeeded longE) (take-at (s .nodes) B nodesNeeded longN)
+    ∙ ap₂ (λ (X Y : List ℕ). across (longer X Y) (stepAt P s bytes out))
+    (drop-at (s .elements) A elementsNeeded longE) (drop-at (s .nodes) B nodesNeeded longN)
 
 -- a refused event
 
 module _ (P : Plan) (s : Seat) (bytes out : List ℕ) where
-  abbrev needed : Seat
-  needed = seat (s .numbers) (take elementsNeeded (s .elements)) (take nodesNeeded (s .nodes))
-
   Kept : Came Seat → Type 0
   Kept c = (c .refusal ≡ 0 → ⊥) → c ≡ came (c .refusal) 0 s out
 
@@ -69,11 +83,11 @@ module _ (P : Plan) (s : Seat) (bytes out : List ℕ) where
   unfolding Kept
   kept-lent r f = refl
 
-  kept-step : Kept (beside (s .elements) (s .nodes) (stepAt P needed bytes out))
+  kept-step : Kept (beside s (stepAt P (needed s) bytes out))
   unfolding Kept
   kept-step f =
-      ap (beside (s .elements) (s .nodes)) (refused-at P needed bytes out f)
-      ∙ ap₂ (λ (X Y : List ℕ). came (stepAt P needed bytes out .refusal) 0 (seat (s .numbers) X Y) out)
+      ap (beside s) (refused-at P (needed s) bytes out f)
+      ∙ ap₂ (λ (X Y : List ℕ). came (stepAt P (needed s) bytes out .refusal) 0 (seat (s .numbers) X Y) out)
       (take-append-drop elementsNeeded (s .elements)) (take-append-drop nodesNeeded (s .nodes))
 
   pub offered-refused : (offered P s bytes out .refusal ≡ 0 → ⊥) → offered P s bytes out ≡ came (offered P s bytes out .refusal) 0 s out
