@@ -17,7 +17,7 @@ use mathlib.Core.Bool.{Bool, true, false, not, _||_}
 use mathlib.Core.List.{List, [], _++_}
 use mathlib.Core.Option.{Option, none, some}
 use lib.Dec.{T, eqb, ltb}
-use lib.ListN.{length, take, drop, take-append-drop}
+use lib.ListN.{length, take, drop}
 use borrow.Author.Tests.{eq-eqb, ne-eqb, ltb-false}
 use Rattle.choice.specs.Pick.{pick, pick-true, pick-false, pick-known, never}
 use Rattle.choice.specs.Count.{boolByte-read}
@@ -63,6 +63,7 @@ use Rattle.right.specs.Small.{named-stream}
 use Rattle.right.specs.Rooms.{StandsIn, stands-lent, stands-laid}
 use Rattle.feed.specs.Fed.{Came}
 use Rattle.feed.specs.Steps.{Seat, seat, cameTo, stepAt}
+use Rattle.offer.specs.Offer.{needed, beside}
 use Rattle.session.specs.declared.Session.{Session}
 use Rattle.session.specs.declared.Begun as given
 use Rattle.session.specs.declared.Start.the-variants as started
@@ -71,8 +72,8 @@ use Rattle.session.specs.declared.Answer.the-variants.{Refused, Taken}
 use Rattle.session.specs.declared.Finish as finishing
 use Rattle.session.specs.declared.Finish.the-variants as finish-cases
 use Rattle.session.specs.Begin.{fresh, said, Begun, startAnswer, sessionFor, begun, BeginGives}
-use Rattle.session.specs.Event.{Done, refused, sessionNumbers, withNumbers, settled, within, beside, event, EventGives, finish, FinishGives}
-use Rattle.session.specs.Event.Laws.{event-is}
+use Rattle.session.specs.Event.{Done, refused, sessionNumbers, withNumbers, settled, event, EventGives, finish, FinishGives}
+use Rattle.session.specs.Event.Laws.{event-cases, event-is}
 use Rattle.session.specs.Run.{Housed, housed}
 use Rattle.session.specs.Told.{told, ended}
 use Rattle.promise.specs.Lending.{SameUsed, leftBy}
@@ -173,6 +174,9 @@ module _ {b : List ℕ} {es : List Event} {l : Housed} (o : Of b es l) (bytes E 
     abbrev n : Numbers
     n = sessionNumbers (l .session)
 
+    abbrev at : Seat
+    at = seat n E N
+
     abbrev E₀ : List ℕ
     E₀ = take elementsNeeded E
 
@@ -180,15 +184,14 @@ module _ {b : List ℕ} {es : List Event} {l : Housed} (o : Of b es l) (bytes E 
     N₀ = take nodesNeeded N
 
     abbrev doneBy : After → Done
-    doneBy a = beside E N (settled (l .session) E₀ N₀ out (cameTo (seat n E₀ N₀) out a))
+    doneBy a = settled (l .session) E N out (beside at (cameTo (needed at) out a))
 
     done-refused : (r : ℕ) → 0 < r → doneBy (refusedWith r n (elementsIn E₀) (queueIn N₀) out) ≡ refused r (l .session) E N out
     unfolding settled cameTo
     done-refused r h =
         let some-is : eqb r 0 ≡ false = ne-eqb r 0 (λ z. omega arith) in
-        ap (λ (y : Came Seat). beside E N (settled (l .session) E₀ N₀ out y)) (pick-false (eqb r 0) _ _ some-is)
-        ∙ ap (beside E N) (pick-false (eqb r 0) _ (refused r (l .session) E₀ N₀ out) some-is)
-        ∙ ap₂ (λ x y. refused r (l .session) x y out) (take-append-drop elementsNeeded E) (take-append-drop nodesNeeded N)
+        ap (λ (y : Came Seat). settled (l .session) E N out (beside at y)) (pick-false (eqb r 0) _ _ some-is)
+        ∙ pick-false (eqb r 0) _ (refused r (l .session) E N out) some-is
 
     abbrev doneTaken : After → Done
     doneTaken a =
@@ -203,8 +206,8 @@ module _ {b : List ℕ} {es : List Event} {l : Housed} (o : Of b es l) (bytes E 
     done-taken : (a : After) → a .refusal ≡ 0 → doneBy a ≡ doneTaken a
     unfolding settled cameTo
     done-taken a z =
-        ap (λ (y : Came Seat). beside E N (settled (l .session) E₀ N₀ out y)) (pick-true (eqb (a .refusal) 0) _ _ (eq-eqb (a .refusal) 0 z))
-        ∙ ap (beside E N) (pick-true true _ _ refl)
+        ap (λ (y : Came Seat). settled (l .session) E N out (beside at y)) (pick-true (eqb (a .refusal) 0) _ _ (eq-eqb (a .refusal) 0 z))
+        ∙ pick-true true _ _ refl
 
     taken-of : (a : After) → right.Taken q (document es) (meaning.actIf (eventOf bytes) (document es)) out a → first (refusals q (document es) c) ≡ none →
         Of b (es ++ callEvents c) (leftBy l E N (doneTaken a .session) (doneTaken a .elements) (doneTaken a .nodes))
@@ -257,23 +260,26 @@ module _ {b : List ℕ} {es : List Event} {l : Housed} (o : Of b es l) (bytes E 
         subst (Given (some r)) (sym (done-refused r h) ∙ ap doneBy (sym e)) (refused-given r)
     step-given none a f (takes t) = subst (Given none) (sym (done-taken a (t .refusal))) (taken-given a t f)
 
-    within-given : Given (first (refusals q (document es) c)) (beside E N (within (l .session) bytes E₀ N₀ out))
-    unfolding within stepAt refusals
-    within-given =
+    enough-given :
+        Given (first (refusals q (document es) c))
+        (settled (l .session) E N out (beside at (stepAt (keptIn (l .session .kept)) (needed at) bytes out)))
+    unfolding stepAt refusals
+    enough-given =
         step-given (first (refusals q (document es) c)) _ refl
         (step-right q (document es) (within-limits q (ruled o .admitted) (ruled o .most) es (o .bounds)) n (elementsIn E₀) (queueIn N₀)
         (of-lent o E N (room-long E N enough .0) (room-long E N enough .1) (same enough) .stands) out
         (record { out = length out; elements = length E; nodes = length N }) wide enough (keptIn (l .session .kept)) (o .kept) (eventOf bytes))
 
   pub event-owed : Given (first (refusals q (document es) c)) (event (l .session) bytes E N out)
-  unfolding event refusals eventRefusals first firstOr
+  unfolding refusals eventRefusals first firstOr
   event-owed =
-      pick-known (Given (first (refusals q (document es) c))) (ltb (length out) outputNeeded) _ _
+      subst (Given (first (refusals q (document es) c))) (sym (event-cases (l .session) bytes E N out))
+      (pick-known (Given (first (refusals q (document es) c))) (ltb (length out) outputNeeded) _ _
       (λ t. subst (λ x. Given x (refused shortOutput (l .session) E N out)) (sym (first-one t)) (refused-given shortOutput))
       (λ f.
       pick-known (Given (first (refusals q (document es) c))) (tooSmall (length E) (length N)) _ _
       (λ t. subst (λ x. Given x (refused shortRoom (l .session) E N out)) (sym (first-fifteen f t)) (refused-given shortRoom))
-      (λ g. within-given f g))
+      (λ g. enough-given f g)))
     where
       rest : Option ℕ
       rest = first (drop 2 (eventRefusals q (document es) (eventOf bytes) (record { out = length out; elements = length E; nodes = length N })))

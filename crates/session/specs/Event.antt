@@ -3,32 +3,30 @@
 --   Done                     an event's answer, the next session, and all that was lent, byte for byte
 --   refused n s E N out      a refusal: all as it was
 --   sessionNumbers s, withNumbers s n       the session's numbers; the same session with the numbers n
---   settled s E N out c      what a step that came to c leaves in the room that is needed
---   within s bytes E N out   an event on the room that is needed
---   event s bytes E N out    an event, by its bytes, on any room
+--   settled s E N out c      an event on the session's numbers and the room that came to c, as one on the session
+--   event s bytes E N out    an event, by its bytes, on any room (crate offer)
 --   toldAs, toldOf           the same with the answer in document 01's number and values (Told)
 --   EventGives s bytes E N out r E′ N′ out′      THE PROMISE of `event`: its result r, and all that was lent on return, are those
 --   finish s                 the nodes opened and handed out, or refusal 8
 --   FinishGives s r          THE PROMISE of `finish`: its result r stands for that
 --
--- Assumes nothing. NOT here: what a step does (crate step), which bytes are which event (crate meaning, Record).
+-- Assumes nothing. NOT here: what an event does to numbers and room (crates offer, step), which bytes are which event (crate meaning, Record).
 pub mod Laws
 use Prim.Native.Nat.{ℕ}
 use mathlib.Core.Path.{_≡_}
 use mathlib.Core.Bool.{not}
-use mathlib.Core.List.{List, _++_}
+use mathlib.Core.List.{List}
 use mir.Val.{boolByte}
-use lib.Dec.{eqb, ltb}
-use lib.ListN.{length, take, drop}
+use lib.Dec.{eqb}
 use Rattle.choice.specs.Pick.{pick}
 use Rattle.meaning.specs.Answer as meaning
-use Rattle.meaning.specs.Limits.{outputNeeded, elementsNeeded, nodesNeeded}
-use Rattle.meaning.specs.Refusals.{shortOutput, shortRoom, unfinished}
+use Rattle.meaning.specs.Refusals.{unfinished}
 use Rattle.numbers.specs.Numbers as numbers
 use Rattle.numbers.specs.Numbers.{Numbers}
 use Rattle.plan_bytes.specs.Kept.{keptIn}
 use Rattle.feed.specs.Fed.{Came}
-use Rattle.feed.specs.Steps.{Seat, seat, stepAt}
+use Rattle.feed.specs.Steps.{Seat, seat}
+use Rattle.offer.specs.Offer.{offered}
 use Rattle.session.specs.declared.Session.{Session}
 use Rattle.session.specs.declared.Answer.{Answer}
 use Rattle.session.specs.declared.Answer.the-variants.{Refused, Taken}
@@ -74,26 +72,8 @@ settled s E N out c =
     })
     (refused (c .refusal) s E N out)
 
-unfoldable pub within : Session → List ℕ → List ℕ → List ℕ → List ℕ → Done
-within s bytes E N out = settled s E N out (stepAt (keptIn (s .kept)) (seat (sessionNumbers s) E N) bytes out)
-
--- the bytes past the needed ones are never touched
-abbrev pub beside : List ℕ → List ℕ → Done → Done
-beside E N d =
-    record {
-      answer = d .answer;
-      session = d .session;
-      elements = d .elements ++ drop elementsNeeded E;
-      nodes = d .nodes ++ drop nodesNeeded N;
-      out = d .out;
-    }
-
--- "1: output buffer under 4,100 bytes", "15 comes directly after 1 and before all others"
 unfoldable pub event : Session → List ℕ → List ℕ → List ℕ → List ℕ → Done
-event s bytes E N out =
-    pick (ltb (length out) outputNeeded) (refused shortOutput s E N out)
-    (pick (meaning.tooSmall (length E) (length N)) (refused shortRoom s E N out)
-    (beside E N (within s bytes (take elementsNeeded E) (take nodesNeeded N) out)))
+event s bytes E N out = settled s E N out (offered (keptIn (s .kept)) (seat (sessionNumbers s) E N) bytes out)
 
 -- the same in document 01's numbers and values
 pub record ToldDone : Type 0 where

@@ -3,10 +3,10 @@
 ghost use mathlib.Core.Path.{_≡_};
 ghost use Prim.Native.Nat.{_*_, _≤_};
 ghost use lib.ListN.{length};
-ghost use Rattle.meaning.specs.Limits.{outputNeeded, elementsNeeded, nodesNeeded};
+ghost use Rattle.meaning.specs.Limits.{elementsNeeded, nodesNeeded};
 ghost use Rattle.numbers.specs.Numbers.{numbersRoom, numbersIn};
 ghost use Rattle.session.specs.Begin.{fresh, BeginGives};
-ghost use Rattle.session.specs.Event.{sessionNumbers, withNumbers, within, EventGives, FinishGives};
+ghost use Rattle.session.specs.Event.{sessionNumbers, withNumbers, EventGives, FinishGives};
 ghost use Rattle.session.specs.Run.{ran, runWithin, RunGives};
 use plan::Plan;
 use query::QueryAnswer;
@@ -146,16 +146,15 @@ impl Session {
         }
     }
 
-    // An event on the room that is needed, with enough of a buffer.
-    fn within(self, bytes: &[u8], elements: &mut [u8], nodes: &mut [u8], out: &mut [u8]) -> Next
-        requires { ⌜ (length (now elements) ≡ elementsNeeded) × ((length (now nodes) ≡ nodesNeeded) × (outputNeeded ≤ length (now out))) ⌝ }
-        ensures { λ r. ⌜ record { answer = r .answer; session = r .session; elements = now (elements .exit); nodes = now (nodes .exit); out = now (out .exit) }
-            ≡ within self (now (bytes .entry)) (now (elements .entry)) (now (nodes .entry)) (now (out .entry)) ⌝ }
+    // Takes one event. Longer buffers are fine: their bytes past the needed ones are never touched.
+    pub fn event(self, bytes: &[u8], elements: &mut [u8], nodes: &mut [u8], out: &mut [u8]) -> Next
+        ensures { λ r. ⌜ EventGives self (now (bytes .entry)) (now (elements .entry)) (now (nodes .entry)) (now (out .entry)) r
+            (now (elements .exit)) (now (nodes .exit)) (now (out .exit)) ⌝ }
     {
         let kept = self.kept;
         let mut numbers = [0u8; 20];
         self.lay(&mut numbers);
-        let r = step::step(&kept, bytes, &mut numbers, elements, nodes, out);
+        let r = offer::offer(&kept, bytes, &mut numbers, elements, nodes, out);
         if r.refusal != 0 {
             return Next {
                 answer: Answer::Refused(r.refusal),
@@ -167,26 +166,6 @@ impl Session {
             answer: Answer::Taken(r.listed),
             session: next,
         }
-    }
-
-    // Takes one event. Longer buffers are fine: their bytes past the needed ones are never touched.
-    pub fn event(self, bytes: &[u8], elements: &mut [u8], nodes: &mut [u8], out: &mut [u8]) -> Next
-        ensures { λ r. ⌜ EventGives self (now (bytes .entry)) (now (elements .entry)) (now (nodes .entry)) (now (out .entry)) r
-            (now (elements .exit)) (now (nodes .exit)) (now (out .exit)) ⌝ }
-    {
-        let refusal = lent::refuse_lent(out.len(), elements.len(), nodes.len());
-        if refusal != 0 {
-            return Next {
-                answer: Answer::Refused(refusal),
-                session: self,
-            };
-        }
-        self.within(
-            bytes,
-            &mut elements[..limits::ELEMENTS_ROOM],
-            &mut nodes[..limits::NODES_ROOM],
-            out,
-        )
     }
 
     // No event is looked at, or the first is refused for want of room.

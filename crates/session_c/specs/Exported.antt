@@ -11,6 +11,7 @@
 --
 -- Assumes nothing. NOT here: the session in bytes (Laid), the query's answer as a number (crate query_c, Packed), that the promises allow one result (Laws).
 pub mod Laws
+pub mod Offered
 use Prim.Native.Nat.{ℕ, _*_, _/_}
 use mathlib.Core.Path.{_≡_}
 use mathlib.Core.List.{List}

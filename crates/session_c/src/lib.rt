@@ -8,9 +8,9 @@ ghost use Rattle.numbers.specs.Numbers.{numbersRoom, numbersIn};
 ghost use Rattle.query_c.specs.Packed.{packed};
 ghost use Rattle.session.specs.Begin.{said};
 ghost use Rattle.session_c.specs.Laid.{sessionRoom, sessionOf, sessionIn, sessionBytes, countsRoom, countBytes};
-ghost use Rattle.session_c.specs.Exported.{startedBy, numberOf, laidBy, movedBy, endNumber, countedBy};
+ghost use Rattle.session_c.specs.Exported.{startedBy, movedBy, endNumber, countedBy};
+ghost use Rattle.session_c.specs.Exported.Offered.{eventNumber};
 ghost use Rattle.session_c.specs.Exported.{ExportBegins, ExportTakes, ExportRuns, ExportFinishes};
-use session::Answer;
 use session::Finish;
 use session::Session;
 use session::Start;
@@ -110,18 +110,14 @@ pub extern "C" fn compassflare_begin(
     answer_begin(answer, first, session)
 }
 
-// An event's answer as a number. The session in bytes changes only where the event was taken.
-fn answer_event(answer: Answer, next: Session, room: &mut [u8]) -> u64
-    requires { ⌜ length (now room) ≡ sessionRoom ⌝ }
-    ensures { λ r. ⌜ (r ≡ numberOf answer) × (now (room .exit) ≡ laidBy answer next (now (room .entry))) ⌝ }
+// An event's answer as a number.
+fn answer_event(refusal: u8, listed: u32) -> u64
+    ensures { λ r. ⌜ r ≡ eventNumber refusal listed ⌝ }
 {
-    match answer {
-        Answer::Refused(n) => n as u64,
-        Answer::Taken(k) => {
-            put_session(next, room);
-            256 * (k as u64)
-        }
+    if refusal != 0 {
+        return refusal as u64;
     }
+    256 * (listed as u64)
 }
 
 // Takes one event: 256 times how many list records stand at the start of `out`, or the refusal's number.
@@ -139,10 +135,17 @@ pub extern "C" fn compassflare_event(
     if session.len() != ROOM {
         return NO_SESSION;
     }
-    let step = session_in(&*session).event(bytes, elements, nodes, out);
-    let answer = step.answer;
-    let next = step.session;
-    answer_event(answer, next, session)
+    let mut kept = [0u8; 288];
+    bytes::copy(&session[..plan_bytes::ROOM], &mut kept);
+    let r = offer::offer(
+        &kept,
+        bytes,
+        &mut session[plan_bytes::ROOM..],
+        elements,
+        nodes,
+        out,
+    );
+    answer_event(r.refusal, r.listed)
 }
 
 // Two counts in bytes.

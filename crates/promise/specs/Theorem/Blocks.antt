@@ -19,8 +19,8 @@ use lib.Seq.{drop-drop}
 use borrow.Author.Tests.{eqb-false, ne-eqb, ltb-true, ltb-false, le-ltb}
 use Rattle.choice.specs.Pick.{pick, pick-true, pick-false, pick-known, pick-either}
 use Rattle.choice.specs.Count.{positive}
-use Rattle.meaning.specs.Limits.{outputNeeded, elementsNeeded, nodesNeeded}
-use Rattle.meaning.specs.Refusals.{shortOutput, shortRoom}
+use Rattle.meaning.specs.Limits.{outputNeeded}
+use Rattle.meaning.specs.Refusals.{shortRoom}
 use Rattle.meaning.specs.Stream.{Event}
 use Rattle.meaning.specs.Answer as meaning
 use Rattle.meaning.specs.Answer.{Call, tooSmall, answer, handedBy, handedOut}
@@ -29,13 +29,15 @@ use Rattle.records.specs.Write.{recordsOf, nodesIn}
 use Rattle.records.specs.Write.Laws.{length-records, records-append, length-nodes}
 use Rattle.plan_bytes.specs.Kept.{keptIn}
 use Rattle.feed.specs.Fed.{Came, Fed, none, one, andThen, fed}
-use Rattle.feed.specs.Steps.{Seat, seat, stepAt}
+use Rattle.feed.specs.Steps.{Seat, seat}
+use Rattle.offer.specs.Offer.{offered}
 use Rattle.session.specs.declared.Session.{Session}
 use Rattle.session.specs.declared.Next.{Next}
 use Rattle.session.specs.declared.Answer.{Answer}
 use Rattle.session.specs.declared.Answer.the-variants.{Refused, Taken}
 use Rattle.session.specs.declared.Ran.{Ran}
-use Rattle.session.specs.Event.{Done, sessionNumbers, settled, within, beside, toldOf, event, EventGives}
+use Rattle.session.specs.Event.{Done, sessionNumbers, settled, toldOf, event, EventGives}
+use Rattle.session.specs.Event.Laws.{event-cases}
 use Rattle.session.specs.Run.{Housed, housed, refusalOf, listedOf, cameAs, eventAt, ran, RunGives}
 use Rattle.session.specs.Told.{told}
 use Rattle.promise.specs.Lending.{SameUsed, leftBy}
@@ -92,21 +94,18 @@ Numbered : Done → Type 0
 Numbered d = (x : ℕ) → d .answer ≡ Refused x → 0 < x
 
 pub refused-some : (s : Session) (bytes E N out : List ℕ) (x : ℕ) → event s bytes E N out .answer ≡ Refused x → 0 < x
-unfolding event within settled Numbered
+unfolding event settled Numbered
 refused-some s bytes E N out =
-    pick-either Numbered _ _ _ (λ x e. let z : x ≡ shortOutput = cc in omega arith)
-    (pick-either Numbered _ _ _ (λ x e. let z : x ≡ shortRoom = cc in omega arith)
-    (pick-known (λ (d : Done). Numbered (beside E N d)) (eqb (came .refusal) 0) _ _ (λ t x e. let z : _≡_ {A = ℕ} 0 1 = cc in absurd (omega arith))
-    (λ f x e. let z : x ≡ came .refusal = cc in subst (λ k. 0 < k) (sym z) (positive (came .refusal) (eqb-false (came .refusal) 0 f)))))
+    pick-known Numbered (eqb (came .refusal) 0) _ _ (λ t x e. let z : _≡_ {A = ℕ} 0 1 = cc in absurd (omega arith))
+    (λ f x e. let z : x ≡ came .refusal = cc in subst (λ k. 0 < k) (sym z) (positive (came .refusal) (eqb-false (came .refusal) 0 f)))
   where
     came : Came Seat
-    came = stepAt (keptIn (s .kept)) (seat (sessionNumbers s) (take elementsNeeded E) (take nodesNeeded N)) bytes out
+    came = offered (keptIn (s .kept)) (seat (sessionNumbers s) E N) bytes out
 
 -- an event that is taken was lent enough
 taken-enough :
     (s : Session) (bytes E N out : List ℕ) (k : ℕ) → outputNeeded ≤ length out → event s bytes E N out .answer ≡ Taken k →
     tooSmall (length E) (length N) ≡ false
-unfolding event
 taken-enough s bytes E N out k wide e = by (tooSmall (length E) (length N)) refl
   where
     by : (x : Bool) → tooSmall (length E) (length N) ≡ x → x ≡ false
@@ -114,7 +113,9 @@ taken-enough s bytes E N out k wide e = by (tooSmall (length E) (length N)) refl
     by true t =
         let short : event s bytes E N out .answer ≡ Refused shortRoom =
         ap (λ (d : Done). d .answer)
-        (pick-false (ltb (length out) outputNeeded) _ _ (le-ltb (length out) outputNeeded wide) ∙ pick-true (tooSmall (length E) (length N)) _ _ t) in
+        (event-cases s bytes E N out
+        ∙ pick-false (ltb (length out) outputNeeded) _ _ (le-ltb (length out) outputNeeded wide)
+        ∙ pick-true (tooSmall (length E) (length N)) _ _ t) in
         let z : _≡_ {A = ℕ} 0 1 = cc in absurd (omega arith)
 
 module _ {b : List ℕ} {fs : List Event} {l : Housed} (o : Of b fs l) (n : ℕ) (es E N out : List ℕ)

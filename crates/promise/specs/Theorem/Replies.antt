@@ -17,7 +17,7 @@ use mathlib.Core.Path.{_≡_, refl, sym, ap, ap₂, _∙_, subst}
 use mathlib.Core.Bool.{true, false}
 use mathlib.Core.List.{List, [], _∷_, _++_, map, flatMap, List·Memᴰ}
 use lib.Dec.{eqb}
-use lib.ListN.{length, take, drop, take-append-drop, length-append, length-drop}
+use lib.ListN.{length, take, drop, length-append, length-drop}
 use lib.Seq.{take-at, drop-at, length-take-le}
 use Rattle.choice.specs.Pick.{pick-true, pick-false, pick-known, pick-either}
 use Rattle.choice.specs.Count.{boolByte-le}
@@ -45,6 +45,7 @@ use Rattle.records.specs.Write.Laws.{length-records, records-append, length-nod
 use Rattle.feed.specs.Fed.{Came}
 use Rattle.feed.specs.Steps.{Seat, seat, stepAt, Whole}
 use Rattle.feed.specs.Steps.Laws.{whole-step}
+use Rattle.offer.specs.Offer.{needed}
 use Rattle.session.specs.declared.Session.{Session}
 use Rattle.session.specs.declared.Begun as given
 use Rattle.session.specs.declared.Start as start
@@ -57,8 +58,8 @@ use Rattle.session.specs.declared.Answer.the-variants.{Refused, Taken}
 use Rattle.session.specs.Begin.{fresh, said, startAnswer, sessionFor, begun, BeginGives}
 use Rattle.session.specs.Begin.Laws.{begin-one}
 use Rattle.session.specs.Event as events
-use Rattle.session.specs.Event.{Done, refused, sessionNumbers, settled, within, beside, event, EventGives}
-use Rattle.session.specs.Event.Laws.{event-is, event-one, finish-one}
+use Rattle.session.specs.Event.{Done, refused, sessionNumbers, settled, event, EventGives}
+use Rattle.session.specs.Event.Laws.{event-cases, event-is, event-one, finish-one}
 use Rattle.session.specs.Run.{Housed, housed}
 use Rattle.session.specs.Told.{told, ended}
 use Rattle.promise.specs.Lending.{SameUsed, leftBy}
@@ -202,37 +203,31 @@ module _ (s : Session) (bytes E N out : List ℕ) where
   Rooms d = SameRoom elementsNeeded (d .elements) E × SameRoom nodesNeeded (d .nodes) N
 
   abbrev at : Seat
-  at = seat (sessionNumbers s) (take elementsNeeded E) (take nodesNeeded N)
+  at = seat (sessionNumbers s) E N
 
   abbrev came : Came Seat
-  came = stepAt (keptIn (s .kept)) at bytes out
+  came = stepAt (keptIn (s .kept)) (needed at) bytes out
 
   back : Back (event s bytes E N out)
-  unfolding event within settled Back
-  back =
-      pick-either Back _ _ _ (λ n e. (refl, (refl, (refl, refl))))
-      (pick-either Back _ _ _ (λ n e. (refl, (refl, (refl, refl))))
-      (pick-either (λ (d : Done). Back (beside E N d)) (eqb (came .refusal) 0) _ _ (λ n e. let z : _≡_ {A = ℕ} 0 1 = cc in absurd (omega arith))
-      (λ n e. (refl, (take-append-drop elementsNeeded E, (take-append-drop nodesNeeded N, refl))))))
+  unfolding event settled Back
+  back = pick-either Back _ _ _ (λ n e. let z : _≡_ {A = ℕ} 0 1 = cc in absurd (omega arith)) (λ n e. (refl, (refl, (refl, refl))))
 
   rooms : Rooms (event s bytes E N out)
-  unfolding event within settled Rooms
+  unfolding settled Rooms
   rooms =
-      pick-either Rooms _ _ _ ((refl, refl), (refl, refl))
+      subst Rooms (sym (event-cases s bytes E N out))
+      (pick-either Rooms _ _ _ ((refl, refl), (refl, refl))
       (pick-known Rooms (tooSmall (length E) (length N)) _ _ (λ t. ((refl, refl), (refl, refl)))
       (λ f.
       let enough = room-long E N f in
       let longE : length (take elementsNeeded E) ≡ elementsNeeded = length-take-le elementsNeeded E (enough .0) in
       let longN : length (take nodesNeeded N) ≡ nodesNeeded = length-take-le nodesNeeded N (enough .1) in
       let whole : Whole (came .seat) =
-      whole-step (keptIn (s .kept)) at bytes out (record { elements = longE; nodes = longN; said = boolByte-le (s .ended) }) in
-      pick-either (λ (d : Done). Rooms (beside E N d)) (eqb (came .refusal) 0) _ _ (
+      whole-step (keptIn (s .kept)) (needed at) bytes out (record { elements = longE; nodes = longN; said = boolByte-le (s .ended) }) in
+      pick-either Rooms (eqb (came .refusal) 0) _ _ (
         room-beside elementsNeeded (came .seat .elements) E (whole .elements) (enough .0),
         room-beside nodesNeeded (came .seat .nodes) N (whole .nodes) (enough .1),
-      ) (
-        room-beside elementsNeeded (take elementsNeeded E) E longE (enough .0),
-        room-beside nodesNeeded (take nodesNeeded N) N longN (enough .1),
-      )))
+      ) ((refl, refl), (refl, refl)))))
 
 pub same :
     (s : Session) (bytes E N out : List ℕ) (r : Next) (E′ N′ out′ : List ℕ) → EventGives s bytes E N out r E′ N′ out′ → Same s bytes E N out r E′ N′ out′

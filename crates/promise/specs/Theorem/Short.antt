@@ -13,10 +13,10 @@ use mathlib.Core.Path.{_≡_, refl, sym, ap, _∙_, subst}
 use mathlib.Core.Bool.{Bool, true, false}
 use mathlib.Core.List.{List}
 use lib.Dec.{eqb, ltb}
-use lib.ListN.{length, take}
+use lib.ListN.{length}
 use borrow.Author.Tests.{lt-ltb, le-ltb, ltb-true, ltb-false}
 use Rattle.choice.specs.Pick.{pick-true, pick-false, pick-either}
-use Rattle.meaning.specs.Limits.{outputNeeded, elementsNeeded, nodesNeeded}
+use Rattle.meaning.specs.Limits.{outputNeeded}
 use Rattle.meaning.specs.Refusals.{shortOutput, shortRoom, badRecord, afterEnd, wrongClose, tooDeep, tooManyNodes, tooManyHeld}
 use Rattle.meaning.specs.Record.{eventOf}
 use Rattle.meaning.specs.Answer.{tooSmall}
@@ -33,10 +33,12 @@ use Rattle.opening.specs.Opening.{overIn}
 use Rattle.step.specs.Step.{After, refusedWith, openTaken, onOpen, closeTaken, onClose, step}
 use Rattle.feed.specs.Fed.{Came}
 use Rattle.feed.specs.Steps.{Seat, seat, cameTo, stepAt}
+use Rattle.offer.specs.Offer.{needed, beside}
 use Rattle.session.specs.declared.Session.{Session}
 use Rattle.session.specs.declared.Answer.{Answer}
 use Rattle.session.specs.declared.Answer.the-variants.{Refused}
-use Rattle.session.specs.Event.{Done, sessionNumbers, settled, within, beside, event}
+use Rattle.session.specs.Event.{Done, sessionNumbers, settled, event}
+use Rattle.session.specs.Event.Laws.{event-cases}
 
 abbrev Apart : ℕ → Type 0
 Apart k = (k ≡ shortOutput → ⊥) × (k ≡ shortRoom → ⊥)
@@ -105,33 +107,36 @@ module _ (s : Session) (bytes E N out : List ℕ) where
   OwnAnswer : Done → Type 0
   OwnAnswer d = (x : ℕ) → d .answer ≡ Refused x → Apart x
 
-  own-within : OwnAnswer (beside E N (within s bytes (take elementsNeeded E) (take nodesNeeded N) out))
-  unfolding within settled OwnAnswer
-  own-within =
-      let at : Seat = seat (sessionNumbers s) (take elementsNeeded E) (take nodesNeeded N) in
-      let c : Came Seat = stepAt (keptIn (s .kept)) at bytes out in
-      pick-either (λ (d : Done). OwnAnswer (beside E N d)) (eqb (c .refusal) 0) _ _
-      (λ x e. let z : _≡_ {A = ℕ} 0 1 = cc in absurd (omega arith))
-      (λ x e. let z : x ≡ c .refusal = cc in subst Apart (sym z) (own-came (keptIn (s .kept)) at bytes out))
+  abbrev at : Seat
+  at = seat (sessionNumbers s) E N
+
+  abbrev came : Came Seat
+  came = stepAt (keptIn (s .kept)) (needed at) bytes out
+
+  own-settled : OwnAnswer (settled s E N out (beside at came))
+  unfolding settled OwnAnswer
+  own-settled =
+      pick-either OwnAnswer (eqb (came .refusal) 0) _ _ (λ x e. let z : _≡_ {A = ℕ} 0 1 = cc in absurd (omega arith))
+      (λ x e. let z : x ≡ came .refusal = cc in subst Apart (sym z) (own-came (keptIn (s .kept)) (needed at) bytes out))
 
   -- by the tests of what is lent
   answer-short : ltb (length out) outputNeeded ≡ true → event s bytes E N out .answer ≡ Refused shortOutput
-  unfolding event
-  answer-short t = ap (λ (d : Done). d .answer) (pick-true (ltb (length out) outputNeeded) _ _ t)
+  answer-short t = ap (λ (d : Done). d .answer) (event-cases s bytes E N out ∙ pick-true (ltb (length out) outputNeeded) _ _ t)
 
   answer-small :
       ltb (length out) outputNeeded ≡ false → tooSmall (length E) (length N) ≡ true → event s bytes E N out .answer ≡ Refused shortRoom
-  unfolding event
   answer-small f t =
-      ap (λ (d : Done). d .answer) (pick-false (ltb (length out) outputNeeded) _ _ f ∙ pick-true (tooSmall (length E) (length N)) _ _ t)
+      ap (λ (d : Done). d .answer)
+      (event-cases s bytes E N out ∙ pick-false (ltb (length out) outputNeeded) _ _ f ∙ pick-true (tooSmall (length E) (length N)) _ _ t)
 
   answer-own :
       ltb (length out) outputNeeded ≡ false → tooSmall (length E) (length N) ≡ false → (x : ℕ) → event s bytes E N out .answer ≡ Refused x → Apart x
-  unfolding event OwnAnswer
+  unfolding OwnAnswer
   answer-own f g x e =
-      own-within x
+      own-settled x
       (sym
-      (ap (λ (d : Done). d .answer) (pick-false (ltb (length out) outputNeeded) _ _ f ∙ pick-false (tooSmall (length E) (length N)) _ _ g)) ∙ e)
+      (ap (λ (d : Done). d .answer)
+      (event-cases s bytes E N out ∙ pick-false (ltb (length out) outputNeeded) _ _ f ∙ pick-false (tooSmall (length E) (length N)) _ _ g)) ∙ e)
 
   pub event-short : (event s bytes E N out .answer ≡ Refused shortOutput) ↔ (length out < outputNeeded)
   event-short = (λ e. to (ltb (length out) outputNeeded) (tooSmall (length E) (length N)) refl refl e, λ h. answer-short (lt-ltb _ _ h))

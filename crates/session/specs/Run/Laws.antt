@@ -10,19 +10,17 @@
 -- What is large is given explicitly. Assumes nothing.
 use Prim.Native.Nat.{ℕ, zero, suc, _+_, _-_, _*_, _/_, _≤_, _<_}
 use native.Mathlib.Omega.{arith}
-use mathlib.Core.Path.{_≡_, refl, sym, ap, ap₂, _∙_}
-use mathlib.Core.Bool.{Bool, true, false, not}
+use mathlib.Core.Path.{_≡_, refl, sym, ap, _∙_}
+use mathlib.Core.Bool.{Bool, true}
 use mathlib.Core.List.{List, _++_}
-use mir.Val.{boolByte}
 use lib.Dec.{eqb}
-use lib.ListN.{length, take, drop, take-append-drop, length-append}
-use lib.Seq.{length-take-le, take-at, drop-at}
+use lib.ListN.{length, take, drop, take-append-drop}
+use lib.Seq.{length-take-le}
 use borrow.Author.Tests.{eqb-true, eqb-false, ne-eqb, lt-ltb, le-ltb}
 use Rattle.choice.specs.Pick.{pick, pick-true, pick-false, pick-yes, pick-no, pick-known}
 use Rattle.choice.specs.Count.{boolByte-le, boolByte-read}
 use Rattle.meaning.specs.Refusals.{shortRoom}
 use Rattle.meaning.specs.Answer.{tooSmall}
-use Rattle.meaning.specs.Answer.Laws.{not-small}
 use Rattle.meaning.specs.Limits.{outputNeeded, elementsNeeded, nodesNeeded}
 use Rattle.numbers.specs.Numbers.{Numbers}
 use Rattle.plan.specs.Plan.{Plan}
@@ -31,9 +29,12 @@ use Rattle.feed.specs.Fed.{Came, Fed, one, andThen, fed}
 use Rattle.feed.specs.Fed.Across.{across, allAcross, Alike, fed-across}
 use Rattle.feed.specs.Steps.{Seat, seat, came, stepAt, Whole}
 use Rattle.feed.specs.Steps.Laws.{refused-at, whole-step}
+use Rattle.offer.specs.Offer.{longer, offered}
+use Rattle.offer.specs.Offer.Laws.{offered-long}
 use Rattle.session.specs.declared.Session.{Session}
 use Rattle.session.specs.declared.Ran.{Ran}
-use Rattle.session.specs.Event.{Done, sessionNumbers, withNumbers, settled, within, beside, event}
+use Rattle.session.specs.Event.{Done, sessionNumbers, withNumbers, settled, event}
+use Rattle.session.specs.Event.Laws.{there, event-cases}
 use Rattle.lent.specs.Lent.{refuseLent}
 use Rattle.lent.specs.Lent.Laws.{lent-short}
 use Rattle.session.specs.Run.{Housed, housed, refusalOf, listedOf, cameAs, eventAt, ran, runWithin, RunGives}
@@ -43,15 +44,6 @@ use Rattle.session.specs.Run.{Housed, housed, refusalOf, listedOf, cameA
 again : (s : Session) → withNumbers s (sessionNumbers s) ≡ s
 again s =
     ap (λ (b : Bool). record { kept = s .kept; depth = s .depth; held = s .held; opened = s .opened; handed = s .handed; ended = b }) (boolByte-read (s .ended))
-
-said-bit : (n : ℕ) → n ≤ 1 → boolByte (not (eqb n 0)) ≡ n
-said-bit zero h = refl
-said-bit (suc zero) h = refl
-said-bit (suc (suc n)) h = absurd (omega arith)
-
-there : (s : Session) (n : Numbers) → n .ended ≤ 1 → sessionNumbers (withNumbers s n) ≡ n
-there s n h =
-    ap (λ (k : ℕ). record { depth = n .depth; held = n .held; opened = n .opened; handed = n .handed; ended = k }) (said-bit (n .ended) h)
 
 -- an event on what is seen is a step
 
@@ -65,59 +57,24 @@ module _ (s : Session) (A B : List ℕ) (t : Seat) (bytes out : List ℕ) (w : W
   abbrev now : Session
   now = withNumbers s (t .numbers)
 
-  fit-E : take elementsNeeded (t .elements ++ A) ≡ t .elements
-  fit-E = take-at (t .elements) A elementsNeeded (w .elements)
-
-  fit-N : take nodesNeeded (t .nodes ++ B) ≡ t .nodes
-  fit-N = take-at (t .nodes) B nodesNeeded (w .nodes)
-
-  rest-E : drop elementsNeeded (t .elements ++ A) ≡ A
-  rest-E = drop-at (t .elements) A elementsNeeded (w .elements)
-
-  rest-N : drop nodesNeeded (t .nodes ++ B) ≡ B
-  rest-N = drop-at (t .nodes) B nodesNeeded (w .nodes)
-
-  enough : tooSmall (length (t .elements ++ A)) (length (t .nodes ++ B)) ≡ false
-  enough =
-      not-small _ _ (omega (arith, length-append (t .elements) A, w .elements)) (omega (arith, length-append (t .nodes) B, w .nodes))
-
-  within-is : within now bytes (t .elements) (t .nodes) out ≡ settled now (t .elements) (t .nodes) out (stepAt P t bytes out)
-  unfolding within
-  within-is =
-      ap (λ (n : Numbers). settled now (t .elements) (t .nodes) out (stepAt P (seat n (t .elements) (t .nodes)) bytes out)) (there s (t .numbers) (w .said))
-
-  -- the bytes past the needed ones
-  abbrev with-rest : Done → Done
-  with-rest d = record { answer = d .answer; session = d .session; elements = d .elements ++ A; nodes = d .nodes ++ B; out = d .out }
+  abbrev event-at : Came Seat → Done
+  event-at c = settled now (t .elements ++ A) (t .nodes ++ B) out c
 
   settled-is :
       (c : Came Seat) → ((c .refusal ≡ 0 → ⊥) → c ≡ came (c .refusal) 0 t out) →
-      cameAs (with-rest (settled now (t .elements) (t .nodes) out c)) ≡ across (seen s A B) c
+      cameAs (event-at (across (longer A B) c)) ≡ across (seen s A B) c
   unfolding settled refusalOf listedOf
   settled-is c kept =
-      pick-known (λ (d : Done). cameAs (with-rest d) ≡ across (seen s A B) c) (eqb (c .refusal) 0) _ _
+      pick-known (λ (d : Done). cameAs d ≡ across (seen s A B) c) (eqb (c .refusal) 0) _ _
       (λ e. ap (λ (r : ℕ). record { refusal = r; listed = c .listed; seat = seen s A B (c .seat); out = c .out }) (sym (eqb-true _ _ e)))
       (λ e. sym (ap (λ (y : Came Seat). across (seen s A B) y) (kept (eqb-false _ _ e))))
 
   event-seen : outputNeeded ≤ length out → eventAt (seen s A B t) bytes out ≡ across (seen s A B) (stepAt P t bytes out)
   unfolding eventAt event
   event-seen h =
-      ap (λ (y : Done). cameAs y)
-      (pick-false _ _ _ (le-ltb _ _ h)
-      ∙ pick-false _ _ _ enough
-      ∙ ap₂ (λ X Y. beside (t .elements ++ A) (t .nodes ++ B) (within now bytes X Y out)) fit-E fit-N
-      ∙ ap (beside (t .elements ++ A) (t .nodes ++ B)) within-is
-      ∙ ap₂ (λ X Y. record {
-        answer = d .answer;
-        session = d .session;
-        elements = d .elements ++ X;
-        nodes = d .nodes ++ Y;
-        out = d .out;
-      }) rest-E rest-N)
+      ap (λ (n : Numbers). cameAs (event-at (offered P (seat n (t .elements ++ A) (t .nodes ++ B)) bytes out))) (there s (t .numbers) (w .said))
+      ∙ ap (λ (c : Came Seat). cameAs (event-at c)) (offered-long P t A B bytes out (w .elements) (w .nodes) h)
       ∙ settled-is (stepAt P t bytes out) (refused-at P t bytes out)
-    where
-      d : Done
-      d = settled now (t .elements) (t .nodes) out (stepAt P t bytes out)
 
 module _ (s : Session) (A B : List ℕ) where
   steps-alike : Alike (seen s A B) eventAt (stepAt (keptIn (s .kept))) Whole
@@ -166,8 +123,8 @@ module _ (s : Session) (es E N out : List ℕ) where
   small-event :
       (bytes : List ℕ) → outputNeeded ≤ length out → tooSmall (length E) (length N) ≡ true →
       eventAt (housed s E N) bytes out ≡ record { refusal = shortRoom; listed = 0; seat = housed s E N; out = out }
-  unfolding eventAt event refusalOf listedOf
-  small-event bytes h k = ap (λ (d : Done). cameAs d) (pick-false _ _ _ (le-ltb _ _ h) ∙ pick-true _ _ _ k)
+  unfolding eventAt refusalOf listedOf
+  small-event bytes h k = ap (λ (d : Done). cameAs d) (event-cases s bytes E N out ∙ pick-false _ _ _ (le-ltb _ _ h) ∙ pick-true _ _ _ k)
 
   small :
       (n : ℕ) → 0 < n → outputNeeded ≤ length out → tooSmall (length E) (length N) ≡ true →

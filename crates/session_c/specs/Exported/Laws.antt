@@ -1,7 +1,7 @@
 -- What the calls give together, and that the promises allow one result.
 --
 --   begins-none, takes-none, runs-none, runs-uncounted, finishes-none, finishes-uncounted      a session, or counts, of another length
---   begins-parts, takes-parts, runs-parts, finishes-parts      any other call, by what the session's own call gives
+--   begins-parts, runs-parts, finishes-parts      any other call but an event (Offered), by what the session's own call gives
 --   begins-one, takes-one, runs-one, finishes-one     two results that a promise allows are equal, and so is all that was lent
 --
 -- The session and what is large are given explicitly. Assumes nothing.
@@ -15,17 +15,16 @@ use Rattle.query_c.specs.Packed.{packed}
 use Rattle.feed.specs.Fed.{fed}
 use Rattle.session.specs.declared.Session.{Session}
 use Rattle.session.specs.declared.Begun as given
-use Rattle.session.specs.declared.Next.{Next}
 use Rattle.session.specs.declared.Ran.{Ran}
 use Rattle.session.specs.declared.Finish.{Finish}
 use Rattle.session.specs.Begin.{Begun, said, BeginGives}
-use Rattle.session.specs.Event.{event, EventGives, FinishGives}
+use Rattle.session.specs.Event.{FinishGives}
 use Rattle.session.specs.Event as session
-use Rattle.session.specs.Event.Laws.{event-is, finish-is}
+use Rattle.session.specs.Event.Laws.{finish-is}
 use Rattle.session.specs.Run.{housed, eventAt, RunGives}
 use Rattle.session_c.specs.Laid.{sessionRoom, sessionIn, countsRoom, countBytes}
 use Rattle.session_c.specs.Exported.{Began, startedBy, beganWith, began, ExportBegins}
-use Rattle.session_c.specs.Exported.{Took, numberOf, laidBy, tookWith, took, ExportTakes}
+use Rattle.session_c.specs.Exported.{Took, took, ExportTakes}
 use Rattle.session_c.specs.Exported.{Blocked, movedBy, blockedWith, blocked, ExportRuns}
 use Rattle.session_c.specs.Exported.{Finished, endNumber, countedBy, finished, ExportFinishes}
 
@@ -56,16 +55,6 @@ module _ (S bytes E N out : List ℕ) where
   pub takes-none : (length S ≡ sessionRoom → ⊥) → ExportTakes S bytes E N out 255 S E N out
   unfolding took
   takes-none f = sym (pick-false _ _ _ (ne-eqb _ _ f))
-
-  pub takes-parts :
-      (s : Session) (d : Next) (r : ℕ) (S′ E′ N′ out′ : List ℕ) → length S ≡ sessionRoom → s ≡ sessionIn S →
-      EventGives s bytes E N out d E′ N′ out′ → r ≡ numberOf (d .answer) → S′ ≡ laidBy (d .answer) (d .session) S →
-      ExportTakes S bytes E N out r S′ E′ N′ out′
-  unfolding took
-  takes-parts s d r S′ E′ N′ out′ long es g er eS =
-      ap₂ (λ (n : ℕ) (X : List ℕ). record { number = n; session = X; elements = E′; nodes = N′; out = out′ }) er eS
-      ∙ ap (tookWith S) (event-is s bytes E N out d E′ N′ out′ g ∙ ap (λ (x : Session). event x bytes E N out) es)
-      ∙ sym (pick-true _ _ _ (eq-eqb _ _ long))
 
   pub takes-one :
       (r r′ : ℕ) (A A′ B B′ C C′ D D′ : List ℕ) → ExportTakes S bytes E N out r A B C D → ExportTakes S bytes E N out r′ A′ B′ C′ D′ →

@@ -4,6 +4,8 @@
 --   numbers-laid         bytes with these numbers are those of the numbers
 --   of-parts             a session by what it keeps of its query and its numbers one by one
 --   rest-room            how long the rest of the bytes is, after what is kept of the query
+--   rest-all, kept-all   the rest as it is lent, and what is kept of the query, copied
+--   back-all, back-bytes      the session's bytes when the rest is given back with other numbers;  these are bytes
 --   read-parts           what is kept, copied, and the numbers in the rest are the session in the bytes
 --   session-read         a session laid in bytes is read again as it was
 --   put-parts            what is kept, copied over the bytes, and then the numbers in the place of the rest are the bytes of the session
@@ -12,13 +14,13 @@
 -- Assumes nothing.
 use Prim.Native.Nat.{ℕ, zero, suc, _+_, _-_, _/_, _%_, _≤_, _<_}
 use native.Mathlib.Omega.{arith}
-use mathlib.Core.Path.{_≡_, refl, sym, ap, ap₂, _∙_}
+use mathlib.Core.Path.{_≡_, refl, sym, ap, ap₂, subst, _∙_}
 use mathlib.Core.Bool.{Bool, not}
 use mathlib.Core.List.{List, [], _∷_, _++_, append-nil}
 use mir.Val.{boolByte}
 use lib.Dec.{eqb}
 use lib.ListN.{length, getD, set, take, drop, length-drop, drop-of-length-le}
-use lib.Seq.{length-take-le, take-all, take-length, take-at, drop-at}
+use lib.Seq.{length-take-le, take-all, take-length, take-at, drop-at, getD-append-add}
 use Rattle.choice.specs.Count.{boolByte-le, boolByte-read}
 use Rattle.words.specs.Words.{words, bytesOf, Bytes}
 use Rattle.words.specs.Words.Laws.{words-length, bytes-words, words-bytes, bytes-length}
@@ -72,11 +74,11 @@ module _ (S : List ℕ) (long : length S ≡ sessionRoom) where
       omega
       (arith, length-take-le (length S - 288) (drop 288 S) (omega (arith, length-drop 288 S)), numbers.room-is, room-is)
 
-  rest-all : take (length S - 288) (drop 288 S) ≡ drop planRoom S
+  pub rest-all : take (length S - 288) (drop 288 S) ≡ drop planRoom S
   rest-all = take-all (length S - 288) (drop 288 S) (omega (arith, length-drop 288 S)) ∙ ap (λ k. drop k S) (sym plan-room)
 
   -- what is kept of the query, copied over the bytes k
-  kept-all : (k kept : List ℕ) (n : ℕ) → length k ≡ 288 → n ≡ 288 → kept ≡ take n (take 288 S) ++ drop n k → kept ≡ take planRoom S
+  pub kept-all : (k kept : List ℕ) (n : ℕ) → length k ≡ 288 → n ≡ 288 → kept ≡ take n (take 288 S) ++ drop n k → kept ≡ take planRoom S
   kept-all k kept n lk ln e =
       let l : length (take 288 S) ≤ n = omega (arith, length-take-le 288 S (omega (arith, room-is))) in
       let over : length k ≤ n = omega arith in
@@ -87,6 +89,20 @@ module _ (S : List ℕ) (long : length S ≡ sessionRoom) where
       s ≡ sessionOf kept (numbersIn (take (length S - 288) (drop 288 S))) → length k ≡ 288 → n ≡ 288 → s ≡ sessionIn S
   unfolding sessionIn
   read-parts k kept n s ek es lk ln = es ∙ ap₂ (λ (x y : List ℕ). sessionOf x (numbersIn y)) (kept-all k kept n lk ln ek) rest-all
+
+  -- the numbers given back in the place of the rest
+  module _ (nums : List ℕ) where
+    pub back-all : take 288 S ++ (nums ++ drop (length S - 288) (drop 288 S)) ≡ take planRoom S ++ nums
+    back-all =
+        let over : length (drop 288 S) ≤ length S - 288 = omega (arith, length-drop 288 S) in
+        ap₂ (λ (k : ℕ) (x : List ℕ). take k S ++ (nums ++ x)) (sym plan-room) (drop-of-length-le (drop 288 S) over)
+        ∙ ap (λ (x : List ℕ). take planRoom S ++ x) (append-nil nums)
+
+    pub back-bytes : Bytes (take 288 S ++ (nums ++ drop (length S - 288) (drop 288 S))) → Bytes nums
+    back-bytes h i =
+        subst (λ (v : ℕ). v < 256)
+        (ap (λ (x : List ℕ). getD x (length (take planRoom S) + i) 0) back-all ∙ getD-append-add (take planRoom S) nums i 0)
+        (h (length (take planRoom S) + i))
 
 -- a session laid in bytes is read again as it was: its numbers are of 4 bytes, as the code's are
 module _ (s : Session) (kept-long : length (s .kept) ≡ planRoom) (depth : s .depth < 4294967296) (held : s .held < 4294967296)

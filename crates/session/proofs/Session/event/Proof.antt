@@ -1,49 +1,28 @@
--- Refusals 1 and 15, then the needed part of the room. Assumes nothing.
+-- The session's numbers in bytes, an event on them, and the numbers back if it was taken (Event.Laws). Assumes nothing.
 use borrow.Author.Needs.{needs}
 use native.Mathlib.Omega.{arith}
-use mathlib.Core.Path.{sym, _∙_}
-use lib.Seq.{length-take-le}
-use Rattle.lent.specs.Lent.Laws.{room-fits}
-use Rattle.meaning.specs.Limits.Laws.{elements-is, nodes-is}
-use Rattle.session.specs.Event.Laws.{event-lent, event-parts}
+use mathlib.Core.Path.{sym}
+use Rattle.numbers.specs.Numbers.Laws as numbers
+use Rattle.plan_bytes.specs.Kept.{planRoom}
+use Rattle.session.specs.Event.Laws.{event-refused, event-taken}
 use Rattle.session.proofs.Session.event.Statement.{statement}
 use Rattle.session.proofs.Session.event.Tie as tie
 
-refuse-lent-requires : tie.Need-refuse-lent-requires
-refuse-lent-requires c κs = search needs
+slice-aggregate-lay : tie.Need-slice-aggregate-lay
+slice-aggregate-lay c = search needs
 
-returns : tie.Need-returns
-returns c = let args = c .before .before .before .before .before .before .args in
-    event-lent (args .self) (args .bytes .now) (args .elements .now) (args .nodes .now) (args .out .now) _ (c .before .refuse-lent .ensures .0)
-    (c .if1 .taken)
+lay-requires : tie.Need-lay-requires
+lay-requires c κs = sym numbers.room-is
 
-slice-relend-prefix-within : tie.Need-slice-relend-prefix-within
-slice-relend-prefix-within c = let at-if = c in
-    let fits = at-if .before .refuse-lent .ensures .1 (at-if .if1 .left) in
-    omega (arith, elements-is, fits .room .deep)
+slice-aggregate-offer : tie.Need-slice-aggregate-offer
+slice-aggregate-offer c = search needs
 
-slice-aggregate-within : tie.Need-slice-aggregate-within
-slice-aggregate-within c = let at-if = c .before in
-    let fits = at-if .before .refuse-lent .ensures .1 (at-if .if1 .left) in
-    sym (length-take-le _ (at-if .before .before .before .before .before .before .args .elements .now) (omega (arith, elements-is, fits .room .deep)))
+slice-aggregate-offer-2 : tie.Need-slice-aggregate-offer-2
+slice-aggregate-offer-2 c = search needs
 
-slice-relend-prefix-within-2 : tie.Need-slice-relend-prefix-within-2
-slice-relend-prefix-within-2 c = let at-if = c .before in
-    let fits = at-if .before .refuse-lent .ensures .1 (at-if .if1 .left) in
-    omega (arith, nodes-is, fits .room .held)
-
-slice-aggregate-within-2 : tie.Need-slice-aggregate-within-2
-slice-aggregate-within-2 c = let at-if = c .before .before in
-    let fits = at-if .before .refuse-lent .ensures .1 (at-if .if1 .left) in
-    sym (length-take-le _ (at-if .before .before .before .before .before .before .args .nodes .now) (omega (arith, nodes-is, fits .room .held)))
-
-within-requires : tie.Need-within-requires
-within-requires c κs = let at-if = c .before .before .before in
-    let fits = at-if .before .refuse-lent .ensures .1 (at-if .if1 .left) in
-    let args = at-if .before .before .before .before .before .before .args in (
-      length-take-le _ (args .elements .now) (omega (arith, elements-is, fits .room .deep)) ∙ sym elements-is,
-      (length-take-le _ (args .nodes .now) (omega (arith, nodes-is, fits .room .held)) ∙ sym nodes-is, fits .wide),
-    )
+offer-requires : tie.Need-offer-requires
+unfolding planRoom
+offer-requires c κs = (search needs, omega (arith, numbers.room-is, c .before .before .before .before .before .numbers2 .given))
 
 same-length : tie.Need-same-length
 same-length c = search needs
@@ -54,25 +33,52 @@ same-length-2 c = search needs
 same-length-3 : tie.Need-same-length-3
 same-length-3 c = search needs
 
+returns : tie.Need-returns
+returns c = let at-offer = c .before .before .before .before .before .before .before .before .before in
+    let at-lay = at-offer .before .before .before .before .before .before .before in
+    let args = at-lay .before .before .before .before .before .before .before .args in
+    event-refused (args .self) (args .bytes .now) (args .elements .now) (args .nodes .now) (args .out .now) _ _ _ _ _ _ _ (at-lay .lay .ensures)
+    (at-offer .offer .ensures) (c .if1 .taken)
+
+slice-aggregate-with : tie.Need-slice-aggregate-with
+slice-aggregate-with c = search needs
+
+with-requires : tie.Need-with-requires
+with-requires c κs = omega (arith, numbers.room-is, c .before .before .before .before .before .before .before .before .before .numbers4 .given)
+
+same-length-4 : tie.Need-same-length-4
+same-length-4 c = search needs
+
+same-length-5 : tie.Need-same-length-5
+same-length-5 c = search needs
+
+same-length-6 : tie.Need-same-length-6
+same-length-6 c = search needs
+
 returns-2 : tie.Need-returns-2
-returns-2 c = let at-if = c .before .before .before .before .before .before .before .before .before .before in
-    let fits = at-if .before .refuse-lent .ensures .1 (at-if .if1 .left) in
-    let args = at-if .before .before .before .before .before .before .args in
-    event-parts (args .self) (args .bytes .now) (args .elements .now) (args .nodes .now) (args .out .now) _ _ _ _ _ _ _ elements-is nodes-is
-    (fits .wide) (room-fits _ _ (fits .room)) (c .before .before .before .before .before .before .within .ensures)
+returns-2 c = let at-if = c .before .before in
+    let at-offer = at-if .before .before .before .before .before .before .before .before .before in
+    let at-lay = at-offer .before .before .before .before .before .before .before in
+    let args = at-lay .before .before .before .before .before .before .before .args in
+    event-taken (args .self) (args .bytes .now) (args .elements .now) (args .nodes .now) (args .out .now) _ _ _ _ _ _ _ (at-lay .lay .ensures)
+    (at-offer .offer .ensures) _ (at-if .if1 .left) (c .with .ensures)
 
 pub event-spec : {M : Type 1} → statement M
 event-spec =
     tie.close
     (tie.spec
-    refuse-lent-requires
-    returns
-    slice-relend-prefix-within
-    slice-aggregate-within
-    slice-relend-prefix-within-2
-    slice-aggregate-within-2
-    within-requires
+    slice-aggregate-lay
+    lay-requires
+    slice-aggregate-offer
+    slice-aggregate-offer-2
+    offer-requires
     same-length
     same-length-2
     same-length-3
+    returns
+    slice-aggregate-with
+    with-requires
+    same-length-4
+    same-length-5
+    same-length-6
     returns-2)
