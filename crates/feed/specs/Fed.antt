@@ -22,7 +22,7 @@ use mathlib.Core.List.{List, _++_}
 use mir.Val.{boolByte}
 use lib.Dec.{eqb, leb, ltb}
 use lib.ListN.{length, take, drop}
-use Rattle.choice.specs.Pick.{pick}
+use Rattle.choice.specs.When.{when}
 use Rattle.meaning.specs.Limits.{outputNeeded}
 
 pub record Came (S : Type 0) : Type 0 where
@@ -62,12 +62,12 @@ module _ {S : Type 0} where
     fed zero s es out = none s out
     fed (suc n) s es out =
         let c : Came S = take-one s (take 8 es) out in
-        pick (ltb (length out) outputNeeded) (none s out)
-        (pick (eqb (c .refusal) 0) (andThen (one c) (fed n (c .seat) (drop 8 es) (drop (4 * c .listed) (c .out)))) (one c))
+        when (ltb (length out) outputNeeded) (none s out)
+        (when (eqb (c .refusal) 0) (andThen (one c) (fed n (c .seat) (drop 8 es) (drop (4 * c .listed) (c .out)))) (one c))
 
     unfoldable pub resumed : ℕ → List ℕ → Fed S → Fed S
     resumed n es r =
-        pick (eqb (r .refusal) 0)
+        when (eqb (r .refusal) 0)
         (andThen r (fed (n - r .taken) (r .seat) (drop (8 * r .taken) es) (drop (4 * r .listed) (r .out))))
         r
 
@@ -80,7 +80,7 @@ module _ {S : Type 0} where
 -- what the loop tests
 
 unfoldable pub goesOn : ℕ → ℕ → ℕ → Bool
-goesOn left refusal room = pick (eqb left 0) false (pick (eqb refusal 0) (leb outputNeeded room) false)
+goesOn left refusal room = when (eqb left 0) false (when (eqb refusal 0) (leb outputNeeded room) false)
 
 pub record Goes (left refusal room : ℕ) : Type 0 where
   pub more : 0 < left

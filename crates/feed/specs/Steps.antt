@@ -15,7 +15,7 @@ use mathlib.Core.Path.{_≡_}
 use mathlib.Core.List.{List}
 use lib.Dec.{eqb}
 use lib.ListN.{length}
-use Rattle.choice.specs.Pick.{pick}
+use Rattle.choice.specs.When.{when}
 use Rattle.meaning.specs.Record.{eventOf}
 use Rattle.meaning.specs.Limits.{elementsNeeded, nodesNeeded}
 use Rattle.records.specs.Read.{shown}
@@ -44,7 +44,7 @@ came refusal listed s out = record { refusal = refusal; listed = listed; seat = 
 -- "A refused call leaves the lent room as it was, too"
 unfoldable pub cameTo : Seat → List ℕ → After → Came Seat
 cameTo s out a =
-    pick (eqb (a .refusal) 0)
+    when (eqb (a .refusal) 0)
     (came 0 (a .listed) (seat (a .numbers) (laid element.shape (a .elements)) (laid node.shape (a .nodes))) (a .out))
     (came (a .refusal) 0 s out)
 

@@ -7,14 +7,14 @@
 pub mod Laws
 use Prim.Native.Nat.{ℕ, _≤_}
 use lib.Dec.{ltb}
-use Rattle.choice.specs.Pick.{pick}
+use Rattle.choice.specs.When.{when}
 use Rattle.meaning.specs.Answer.{tooSmall}
 use Rattle.meaning.specs.Limits.{outputNeeded, elementsNeeded, nodesNeeded}
 use Rattle.meaning.specs.Refusals.{shortOutput, shortRoom}
 
 -- "lent room under 16,384 bytes for the open elements or under 32,768 bytes for the waiting nodes"
 unfoldable pub refuseRoom : ℕ → ℕ → ℕ
-refuseRoom elements nodes = pick (tooSmall elements nodes) shortRoom 0
+refuseRoom elements nodes = when (tooSmall elements nodes) shortRoom 0
 
 pub record RoomFits (elements nodes : ℕ) : Type 0 where
   pub deep : elementsNeeded ≤ elements
@@ -22,7 +22,7 @@ pub record RoomFits (elements nodes : ℕ) : Type 0 where
 
 -- "output buffer under 4,100 bytes"
 unfoldable pub refuseLent : ℕ → ℕ → ℕ → ℕ
-refuseLent out elements nodes = pick (ltb out outputNeeded) shortOutput (refuseRoom elements nodes)
+refuseLent out elements nodes = when (ltb out outputNeeded) shortOutput (refuseRoom elements nodes)
 
 pub record LentFits (out elements nodes : ℕ) : Type 0 where
   pub wide : outputNeeded ≤ out

@@ -18,7 +18,7 @@ use Prim.Native.Nat.{ℕ, _+_, _-_}
 use mathlib.Core.Bool.{Bool}
 use mathlib.Core.List.{List, [], _∷_, _++_, map}
 use lib.ListN.{length, take, drop}
-use Rattle.choice.specs.Pick.{pick}
+use Rattle.choice.specs.When.{when}
 use Rattle.plan.specs.Plan.{Plan}
 use Rattle.engine.specs.Quick.{Waiting, stay}
 use Rattle.records.specs.Write.{buffer}
@@ -40,7 +40,7 @@ pub record Moved : Type 0 where
 
 unfoldable pub keptIf : Bool → ℕ → ℕ → ℕ → ℕ → Queue → Moved
 keptIf stays end node level need N =
-    pick stays (record { held = end + 1; queue = wroteIn end node level need N }) (record { held = end; queue = N })
+    when stays (record { held = end + 1; queue = wroteIn end node level need N }) (record { held = end; queue = N })
 
 -- by those that stay
 abbrev pub movedBy : ℕ → Queue → List Waiting → Moved
@@ -68,12 +68,12 @@ pub record Joined : Type 0 where
 -- with the records and the buffer after `went` nodes went
 abbrev pub joinedTo : Bool → ℕ → ℕ → ℕ → Handed → Joined
 joinedTo joins rest number level h =
-    pick joins
+    when joins
     (record { held = rest + 1; queue = wroteIn rest number level 0 (h .queue); out = h .out })
     (record { held = rest; queue = h .queue; out = h .out })
 
 unfoldable pub joined : Going → ℕ → ℕ → ℕ → Queue → List ℕ → Joined
 joined go held number level N out =
-    pick (go .all)
+    when (go .all)
     (record { held = 0; queue = N; out = buffer (numbers (take (go .went) (N .list)) ++ (number ∷ [])) out })
     (joinedTo (go .joins) (held - go .went) number level (handedOut (go .went) held N out))

@@ -14,7 +14,7 @@ use mathlib.Core.Path.{_≡_}
 use mathlib.Core.List.{List, _++_}
 use lib.Dec.{ltb}
 use lib.ListN.{length, take, drop}
-use Rattle.choice.specs.Pick.{pick}
+use Rattle.choice.specs.When.{when}
 use Rattle.meaning.specs.Answer.{tooSmall}
 use Rattle.meaning.specs.Limits.{outputNeeded, elementsNeeded, nodesNeeded}
 use Rattle.meaning.specs.Refusals.{shortOutput, shortRoom}
@@ -37,8 +37,8 @@ beside s c = across (longer (drop elementsNeeded (s .elements)) (drop nodesNeede
 -- "1: output buffer under 4,100 bytes", "15 comes directly after 1 and before all others"
 unfoldable pub offered : Plan → Seat → List ℕ → List ℕ → Came Seat
 offered P s bytes out =
-    pick (ltb (length out) outputNeeded) (came shortOutput 0 s out)
-    (pick (tooSmall (length (s .elements)) (length (s .nodes))) (came shortRoom 0 s out)
+    when (ltb (length out) outputNeeded) (came shortOutput 0 s out)
+    (when (tooSmall (length (s .elements)) (length (s .nodes))) (came shortRoom 0 s out)
     (beside s (stepAt P (needed s) bytes out)))
 
 abbrev pub OfferGives : Plan → Seat → List ℕ → List ℕ → Stepped → Seat → List ℕ → Type 0

@@ -13,7 +13,7 @@ use mathlib.Core.Bool.{Bool, false}
 use mathlib.Core.List.{_++_}
 use lib.Dec.{eqb, leb}
 use lib.ListN.{take, drop}
-use Rattle.choice.specs.Pick.{pick}
+use Rattle.choice.specs.When.{when}
 use Rattle.meaning.specs.Limits.{heldLimit}
 use Rattle.plan.specs.Plan.{Plan}
 use Rattle.engine.specs.Quick.{State, Opening, opening, over}
@@ -40,10 +40,10 @@ unfoldable pub openingIn : Plan → ℕ → ℕ → ℕ → Elements → Queue �
 openingIn P x depth held E N = openedBy depth E (opening P x (usedIn depth held E N))
 
 unfoldable pub allGo : ℕ → ℕ → Bool → Bool
-allGo went held certain = pick certain (eqb went held) false
+allGo went held certain = when certain (eqb went held) false
 
 unfoldable pub noPlace : Bool → Bool → ℕ → ℕ → Bool
-noPlace all joins went held = pick all false (pick joins (leb heldLimit (held - went)) false)
+noPlace all joins went held = when all false (when joins (leb heldLimit (held - went)) false)
 
 -- "7: an open after which more than 1,024 nodes would be held"
 unfoldable pub overIn : Plan → ℕ → ℕ → ℕ → Elements → Queue → Bool

@@ -21,7 +21,7 @@ use mathlib.Core.Path.{_≡_}
 use mathlib.Core.List.{List, [], _∷_, _++_}
 use mathlib.Core.Option.{Option, none, some}
 use lib.ListN.{length, take}
-use Rattle.choice.specs.Pick.{pick}
+use Rattle.choice.specs.When.{when}
 use Rattle.meaning.specs.Refusals.{unfinished}
 use Rattle.meaning.specs.Query.{Query}
 use Rattle.meaning.specs.Document.{finished}
@@ -36,7 +36,7 @@ use Rattle.system.specs.Marks.{FileOpened, FileClosed, ReadOver, Received, Deli
 
 -- "`end N` with the number handed out"; "for refusal 8 the number of accepted events"
 unfoldable pub finishLineOf : Query → List Event → List ℕ
-finishLineOf q es = pick (finished (document es)) (endLine (length (listed q (document es)))) (refusedAtLine unfinished (length es))
+finishLineOf q es = when (finished (document es)) (endLine (length (listed q (document es)))) (refusedAtLine unfinished (length es))
 
 -- "E is the number of the refused event, counted from 1"
 unfoldable pub lastLineBy : Option ℕ → Query → List Event → List ℕ

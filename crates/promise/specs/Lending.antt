@@ -9,7 +9,7 @@ use Prim.Native.Nat.{ℕ, _*_}
 use mathlib.Core.Path.{_≡_}
 use mathlib.Core.List.{List}
 use lib.ListN.{length, take}
-use Rattle.choice.specs.Pick.{pick}
+use Rattle.choice.specs.When.{when}
 use Rattle.meaning.specs.Limits.{elementRecord, waitingRecord}
 use Rattle.meaning.specs.Answer.{tooSmall}
 use Rattle.session.specs.declared.Session.{Session}
@@ -20,4 +20,4 @@ pub record SameUsed (l : Housed) (E N : List ℕ) : Type 0 where
   pub nodes : take (waitingRecord * l .session .held) N ≡ take (waitingRecord * l .session .held) (l .nodes)
 
 unfoldable pub leftBy : Housed → List ℕ → List ℕ → Session → List ℕ → List ℕ → Housed
-leftBy l E N s E′ N′ = pick (tooSmall (length E) (length N)) (housed s (l .elements) (l .nodes)) (housed s E′ N′)
+leftBy l E N s E′ N′ = when (tooSmall (length E) (length N)) (housed s (l .elements) (l .nodes)) (housed s E′ N′)

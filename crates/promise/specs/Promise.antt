@@ -19,7 +19,7 @@ use mathlib.Core.Option.{Option, none, some}
 use lib.Dec.{T, eqb, ltb}
 use lib.ListN.{length, take, drop}
 use borrow.Author.Tests.{eq-eqb, ne-eqb, ltb-false}
-use Rattle.choice.specs.Pick.{pick, pick-true, pick-false, pick-known, never}
+use Rattle.choice.specs.When.{when, when-true, when-false, when-known, never}
 use Rattle.choice.specs.Count.{boolByte-read}
 use Rattle.meaning.specs.Limits.{elementsNeeded, nodesNeeded, outputNeeded}
 use Rattle.meaning.specs.Limits.Laws.{node-limit-is}
@@ -164,7 +164,7 @@ module _ {b : List ℕ} {es : List Event} {l : Housed} (o : Of b es l) (bytes E 
   -- a refused event leaves all as it was
   refused-of : Of b es (leftBy l E N (l .session) E N)
   unfolding leftBy
-  refused-of = pick-known (Of b es) (tooSmall (length E) (length N)) _ _ (λ e. o) (λ e. of-lent o E N (room-long E N e .0) (room-long E N e .1) (same e))
+  refused-of = when-known (Of b es) (tooSmall (length E) (length N)) _ _ (λ e. o) (λ e. of-lent o E N (room-long E N e .0) (room-long E N e .1) (same e))
 
   refused-given : (r : ℕ) → Given (some r) (refused r (l .session) E N out)
   unfolding answerIf afterIf handedBy told
@@ -190,8 +190,8 @@ module _ {b : List ℕ} {es : List Event} {l : Housed} (o : Of b es l) (bytes E 
     unfolding settled cameTo
     done-refused r h =
         let some-is : eqb r 0 ≡ false = ne-eqb r 0 (λ z. omega arith) in
-        ap (λ (y : Came Seat). settled (l .session) E N out (beside at y)) (pick-false (eqb r 0) _ _ some-is)
-        ∙ pick-false (eqb r 0) _ (refused r (l .session) E N out) some-is
+        ap (λ (y : Came Seat). settled (l .session) E N out (beside at y)) (when-false (eqb r 0) _ _ some-is)
+        ∙ when-false (eqb r 0) _ (refused r (l .session) E N out) some-is
 
     abbrev doneTaken : After → Done
     doneTaken a =
@@ -206,8 +206,8 @@ module _ {b : List ℕ} {es : List Event} {l : Housed} (o : Of b es l) (bytes E 
     done-taken : (a : After) → a .refusal ≡ 0 → doneBy a ≡ doneTaken a
     unfolding settled cameTo
     done-taken a z =
-        ap (λ (y : Came Seat). settled (l .session) E N out (beside at y)) (pick-true (eqb (a .refusal) 0) _ _ (eq-eqb (a .refusal) 0 z))
-        ∙ pick-true true _ _ refl
+        ap (λ (y : Came Seat). settled (l .session) E N out (beside at y)) (when-true (eqb (a .refusal) 0) _ _ (eq-eqb (a .refusal) 0 z))
+        ∙ when-true true _ _ refl
 
     taken-of : (a : After) → right.Taken q (document es) (meaning.actIf (eventOf bytes) (document es)) out a → first (refusals q (document es) c) ≡ none →
         Of b (es ++ callEvents c) (leftBy l E N (doneTaken a .session) (doneTaken a .elements) (doneTaken a .nodes))
@@ -218,7 +218,7 @@ module _ {b : List ℕ} {es : List Event} {l : Housed} (o : Of b es l) (bytes E 
         let stream : Stream fs = subst Stream is (after-stream q es c (o .stream)) in
         let bounds : Bounded q fs = subst (Bounded q) is (after-bounded q es c (o .bounds)) in
         let doc : meaning.actIf (eventOf bytes) (document es) ≡ document fs = act-document es (eventOf bytes) in
-        subst (Of b fs) (sym (pick-false (tooSmall (length E) (length N)) _ _ enough))
+        subst (Of b fs) (sym (when-false (tooSmall (length E) (length N)) _ _ enough))
         (record {
           bytes = o .bytes;
           admitted = o .admitted;
@@ -274,10 +274,10 @@ module _ {b : List ℕ} {es : List Event} {l : Housed} (o : Of b es l) (bytes E 
   unfolding refusals eventRefusals first firstOr
   event-owed =
       subst (Given (first (refusals q (document es) c))) (sym (event-cases (l .session) bytes E N out))
-      (pick-known (Given (first (refusals q (document es) c))) (ltb (length out) outputNeeded) _ _
+      (when-known (Given (first (refusals q (document es) c))) (ltb (length out) outputNeeded) _ _
       (λ t. subst (λ x. Given x (refused shortOutput (l .session) E N out)) (sym (first-one t)) (refused-given shortOutput))
       (λ f.
-      pick-known (Given (first (refusals q (document es) c))) (tooSmall (length E) (length N)) _ _
+      when-known (Given (first (refusals q (document es) c))) (tooSmall (length E) (length N)) _ _
       (λ t. subst (λ x. Given x (refused shortRoom (l .session) E N out)) (sym (first-fifteen f t)) (refused-given shortRoom))
       (λ g. enough-given f g)))
     where
@@ -334,8 +334,8 @@ module _ {b : List ℕ} {es : List Event} {l : Housed} (o : Of b es l) where
 
   -- finish
   finish-line : (x : Bool) (k h : ℕ) →
-      ended (pick x (finish-cases.Ended k h) (finish-cases.Refused unfinished)) ≡ answerIf (firstOr (not x) unfinished none) (meaning.ended k h)
-  unfolding pick ended answerIf firstOr
+      ended (when x (finish-cases.Ended k h) (finish-cases.Refused unfinished)) ≡ answerIf (firstOr (not x) unfinished none) (meaning.ended k h)
+  unfolding when ended answerIf firstOr
   finish-line true k h = refl
   finish-line false k h = refl
 
@@ -343,8 +343,8 @@ module _ {b : List ℕ} {es : List Event} {l : Housed} (o : Of b es l) where
   unfolding finish answer refusals first yield
   finish-given f g =
       g
-      ∙ ap (λ (x : Bool). ended (pick x (finish-cases.Ended (l .session .opened) (l .session .handed)) (finish-cases.Refused unfinished))) ended-is
-      ∙ ap₂ (λ (k h : ℕ). ended (pick (finished (document es)) (finish-cases.Ended k h) (finish-cases.Refused unfinished))) opened-is handed-is
+      ∙ ap (λ (x : Bool). ended (when x (finish-cases.Ended (l .session .opened) (l .session .handed)) (finish-cases.Refused unfinished))) ended-is
+      ∙ ap₂ (λ (k h : ℕ). ended (when (finished (document es)) (finish-cases.Ended k h) (finish-cases.Refused unfinished))) opened-is handed-is
       ∙ finish-line (finished (document es)) (count (document es)) (length (listed (decode b) (document es)))
 
 -- begin
@@ -360,7 +360,7 @@ begin-session b E N r g = ap (λ (x : Begun). x .session) g
 pub begin-admitted : (b E N : List ℕ) (r : given.Begun) → BeginGives b E N r → r .answer ≡ started.Begun → answerTo b ≡ checked.admitted
 unfolding startAnswer said
 begin-admitted b E N r g told-so =
-    pick-known (λ (a : checked.Answer). a ≡ checked.admitted → answerTo b ≡ checked.admitted) (tooSmall (length E) (length N)) _ _
+    when-known (λ (a : checked.Answer). a ≡ checked.admitted → answerTo b ≡ checked.admitted) (tooSmall (length E) (length N)) _ _
     (λ t e. let z : _≡_ {A = ℕ} 0 1 = cc in absurd (omega arith)) (λ f e. e)
     (sym (begin-answer b E N r g) ∙ ap said told-so)
 

@@ -48,4 +48,4 @@ pub record Shaped (q : List ℕ) : Type 0 where
   pub right : wrongLength (length q) ≡ false
   pub axis : (s : ℕ) → s < steps q → axisRule (axisByte (stepOf q s)) ≡ true
   pub role : (s : ℕ) → s < steps q → roleRule (roleByte (stepOf q s)) ≡ true
-  pub zeros : (s : ℕ) → s < steps q → zeroRule (stepOf q s) ≡ true
+  pub zero : (s : ℕ) → s < steps q → zeroRule (stepOf q s) ≡ true

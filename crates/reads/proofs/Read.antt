@@ -12,7 +12,7 @@ use mathlib.Core.List.{List, _++_}
 use lib.ListN.{length, take, drop, length-drop}
 use lib.Seq.{take-add, length-take-le, length-sets}
 use borrow.Author.Tests.{eq-eqb, ne-eqb}
-use Rattle.choice.specs.Pick.{pick-yes, pick-no, never}
+use Rattle.choice.specs.When.{when-yes, when-no, never}
 use Rattle.lines.specs.Put.{Put}
 use Rattle.lines.specs.Put.Laws.{put-taken}
 use Rattle.system.specs.declared.File.{File}
@@ -52,7 +52,7 @@ module _ (file : File) (s : State) (input moved-down input′ : List ℕ) (r : �
         taken-same = refl;
         written-same = refl;
         ended-so = sym (eq-eqb (length bytes) 0 (so-many ∙ z));
-        refused-so = pick-yes true x (leftoverOf left) 0 refl e;
+        refused-so = when-yes true x (leftoverOf left) 0 refl e;
         over = λ t. got .over z (omega (arith, room, ap length (moved .text), length-sets input 0 (unread s input)));
       }
 
@@ -70,6 +70,6 @@ module _ (file : File) (s : State) (input moved-down input′ : List ℕ) (r : �
         taken-same = refl;
         written-same = refl;
         ended-so = sym (ne-eqb (length bytes) 0 (λ e. z (sym so-many ∙ e)));
-        refused-so = pick-no false 0 (leftoverOf left) 0 refl refl;
+        refused-so = when-no false 0 (leftoverOf left) 0 refl refl;
         over = λ t. never t;
       }

@@ -12,7 +12,7 @@ use mathlib.Core.Bool.{true}
 use mathlib.Core.List.{List, _++_}
 use lib.Dec.{eqb}
 use lib.ListN.{length, take, drop}
-use Rattle.choice.specs.Pick.{pick}
+use Rattle.choice.specs.When.{when}
 use Rattle.meaning.specs.Refusals.{badRecord}
 use Rattle.system.specs.declared.File.{File}
 use Rattle.system.specs.Marks.{ReadGave, ReadOver}
@@ -27,7 +27,7 @@ pub record UnreadWithin (s : State) (n : ℕ) : Type 0 where
 
 -- "Leftover bytes under 8 are a bad record."
 unfoldable pub leftoverOf : ℕ → ℕ
-leftoverOf left = pick (eqb left 0) 0 badRecord
+leftoverOf left = when (eqb left 0) 0 badRecord
 
 pub record ReadMore (file : File) (s : State) (input : List ℕ) (s′ : State) (input′ : List ℕ) : Type 0 where
   -- what the read gave
@@ -39,5 +39,5 @@ pub record ReadMore (file : File) (s : State) (input : List ℕ) (s′ : State) 
   pub taken-same : s′ .taken ≡ s .taken
   pub written-same : s′ .written ≡ s .written
   pub ended-so : s′ .ended ≡ eqb (length bytes) 0
-  pub refused-so : s′ .refusal ≡ pick (s′ .ended) (leftoverOf (s .end - s .from)) 0
+  pub refused-so : s′ .refusal ≡ when (s′ .ended) (leftoverOf (s .end - s .from)) 0
   pub over : s′ .ended ≡ true → ReadOver file

@@ -16,7 +16,7 @@ use mir.Val.{boolByte}
 use lib.ListN.{length, take, drop, length-append, length-map, length-drop}
 use lib.Seq.{take-at, take-take, length-take-le}
 use borrow.Author.Tests.{eqb-true, leb-false}
-use Rattle.choice.specs.Pick.{pick, never}
+use Rattle.choice.specs.When.{when, never}
 use Rattle.choice.specs.Count.{boolByte-le}
 use Rattle.meaning.specs.Limits.{heldLimit, nodeLimit}
 use Rattle.meaning.specs.Limits.Laws.{held-is, node-limit-is}
@@ -54,7 +54,7 @@ module _ (N : Queue) (held : ℕ) (many : length (N .list) ≡ heldLimit) (few :
   join-ends :
       (all joins : Bool) (k : ℕ) → k ≤ held → (all ≡ true → k ≡ held) → (all ≡ false → joins ≡ true → held - k < heldLimit) →
       Ends ws w out all joins k (joined (record { went = k; all = all; joins = joins }) held number level N out)
-  unfolding joined pick handedOut queueAfter outAfter
+  unfolding joined when handedOut queueAfter outAfter
   join-ends true joins k h whole free =
       record {
         waits = refl;

@@ -22,7 +22,7 @@ use lib.Dec.{T, eqb, leb, ltb}
 use lib.ListN.{length, getD, take, drop, List·getD-map}
 use lib.Seq.{drop-append-seam, getD-take, length-take-le}
 use borrow.Author.Tests.{eqb-false, leb-false, le-ltb}
-use Rattle.choice.specs.Pick.{pick}
+use Rattle.choice.specs.When.{when}
 use Rattle.choice.specs.Count.{down, positive}
 use Rattle.meaning.specs.Query.{Query, admits}
 use Rattle.meaning.specs.Document.{Doc, done as done-row, within, blank, opened, closed, count, depth, isOpen, finished, endsAt}
@@ -147,10 +147,10 @@ taken-right q d d′ out r a t es eo =
 -- the tables, test by test: row 3 applies or not, and so on
 
 abbrev openRows : Bool → Bool → Bool → ℕ
-openRows b₃ b₅ b₆ = pick b₃ afterEnd (pick b₅ tooDeep (pick b₆ tooManyNodes 0))
+openRows b₃ b₅ b₆ = when b₃ afterEnd (when b₅ tooDeep (when b₆ tooManyNodes 0))
 
 abbrev closeRows : Bool → Bool → Bool → ℕ
-closeRows b₃ none-open same = pick b₃ afterEnd (pick none-open wrongClose (pick same 0 wrongClose))
+closeRows b₃ none-open same = when b₃ afterEnd (when none-open wrongClose (when same 0 wrongClose))
 
 module _ (q : Query) (d : Doc) (e : Option Stream.Event) (n : Numbers) (E : Elements) (N : Queue) (out : List ℕ) where
   abbrev R : ℕ → After
@@ -161,8 +161,8 @@ module _ (q : Query) (d : Doc) (e : Option Stream.Event) (n : Numbers) (E : Elem
       StepOwed q d e n E N out
       (firstOr false badRecord
       (firstOr b₃ afterEnd (firstOr false wrongClose (firstOr b₅ tooDeep (firstOr b₆ tooManyNodes (firstOr b₇ tooManyHeld none))))))
-      (pick (eqb (openRows b₃ b₅ b₆) 0) (pick b₇ (R tooManyHeld) a) (R (openRows b₃ b₅ b₆)))
-  unfolding pick firstOr
+      (when (eqb (openRows b₃ b₅ b₆) 0) (when b₇ (R tooManyHeld) a) (R (openRows b₃ b₅ b₆)))
+  unfolding when firstOr
   open-table true b₅ b₆ b₇ a h = refuses {r = afterEnd} (omega arith) refl
   open-table false true b₆ b₇ a h = refuses {r = tooDeep} (omega arith) refl
   open-table false false true b₇ a h = refuses {r = tooManyNodes} (omega arith) refl
@@ -175,8 +175,8 @@ module _ (q : Query) (d : Doc) (e : Option Stream.Event) (n : Numbers) (E : Elem
       (firstOr false badRecord
       (firstOr b₃ afterEnd
       (firstOr (not (not none-open && same)) wrongClose (firstOr false tooDeep (firstOr false tooManyNodes (firstOr false tooManyHeld none))))))
-      (pick (eqb (closeRows b₃ none-open same) 0) a (R (closeRows b₃ none-open same)))
-  unfolding pick firstOr
+      (when (eqb (closeRows b₃ none-open same) 0) a (R (closeRows b₃ none-open same)))
+  unfolding when firstOr
   close-table true none-open same a h = refuses {r = afterEnd} (omega arith) refl
   close-table false true same a h = refuses {r = wrongClose} (omega arith) refl
   close-table false false true a h = takes (h refl)
@@ -217,14 +217,14 @@ module _ (q : Query) (d : Doc) (w : InLimits q d) (n : Numbers) (E : Elements) (
       ∙ quick-over q (w .admitted) (record { name = x }) d heldLimit (w .few)
 
   open-rows : refuseOpen n ≡ openRows (finished d) (leb depthLimit (depth d)) (leb nodeLimit (count d))
-  unfolding refuseOpen pick
+  unfolding refuseOpen when
   open-rows =
       ap₂
       (λ b k.
-      pick b afterEnd (pick (leb depthLimit k) tooDeep (pick (leb nodeLimit (n .opened)) tooManyNodes (pick (ltb heldLimit (n .held)) tooManyHeld 0))))
+      when b afterEnd (when (leb depthLimit k) tooDeep (when (leb nodeLimit (n .opened)) tooManyNodes (when (ltb heldLimit (n .held)) tooManyHeld 0))))
       (ended-read q d n E N st) (depth-read q d n E N st)
       ∙ ap₂
-      (λ k b. pick (finished d) afterEnd (pick (leb depthLimit (depth d)) tooDeep (pick (leb nodeLimit k) tooManyNodes (pick b tooManyHeld 0))))
+      (λ k b. when (finished d) afterEnd (when (leb depthLimit (depth d)) tooDeep (when (leb nodeLimit k) tooManyNodes (when b tooManyHeld 0))))
       (opened-read q d n E N st) few
 
   open-taken :
@@ -248,7 +248,7 @@ module _ (q : Query) (d : Doc) (w : InLimits q d) (n : Numbers) (E : Elements) (
   open-right x =
       subst (Owed (some (Stream.opens x)))
       (sym
-      (ap₂ (λ r b. pick (eqb r 0) (pick b (refusedWith tooManyHeld n E N out) (openTaken (plan q) x n E N out)) (refusedWith r n E N out)) open-rows
+      (ap₂ (λ r b. when (eqb r 0) (when b (refusedWith tooManyHeld n E N out) (openTaken (plan q) x n E N out)) (refusedWith r n E N out)) open-rows
       (over-is x)))
       (owed-rows (some (Stream.opens x)) _ _
       (open-table q d (some (Stream.opens x)) n E N out (finished d) (leb depthLimit (depth d)) (leb nodeLimit (count d))
@@ -257,11 +257,11 @@ module _ (q : Query) (d : Doc) (w : InLimits q d) (n : Numbers) (E : Elements) (
   -- a close
 
   close-rows : (x : ℕ) → refuseClose n E x ≡ closeRows (finished d) (eqb (n .depth) 0) (eqb (frameAt E (n .depth - 1) .name) x)
-  unfolding refuseClose pick
+  unfolding refuseClose when
   close-rows x =
       let same : Bool = eqb (frameAt E (n .depth - 1) .name) x in
       let rows : Bool → Bool → Bool → ℕ =
-      λ (a b c : Bool). pick a afterEnd (pick (eqb (n .depth) 0) wrongClose (pick b wrongClose (pick same (pick c tooManyHeld 0) wrongClose))) in
+      λ (a b c : Bool). when a afterEnd (when (eqb (n .depth) 0) wrongClose (when b wrongClose (when same (when c tooManyHeld 0) wrongClose))) in
       ap (λ a. rows a (ltb depthLimit (n .depth)) (ltb heldLimit (n .held))) (ended-read q d n E N st)
       ∙ ap₂ (λ b c. rows (finished d) b c) (le-ltb depthLimit (n .depth) (st .deep)) few
 
@@ -285,7 +285,7 @@ module _ (q : Query) (d : Doc) (w : InLimits q d) (n : Numbers) (E : Elements) (
       (firstOr false badRecord
       (firstOr (finished d) afterEnd (firstOr (not b) wrongClose (firstOr false tooDeep (firstOr false tooManyNodes (firstOr false tooManyHeld none)))))) a)
       (sym (ends-read q d n E N st x))
-      (sym (ap (λ r. pick (eqb r 0) (closeTaken (plan q) n E N out) (refusedWith r n E N out)) (close-rows x)))
+      (sym (ap (λ r. when (eqb r 0) (closeTaken (plan q) n E N out) (refusedWith r n E N out)) (close-rows x)))
       (close-table q d (some (Stream.closes x)) n E N out (finished d) (eqb (n .depth) 0) (eqb (frameAt E (n .depth - 1) .name) x)
       (closeTaken (plan q) n E N out) close-taken))
 

@@ -15,7 +15,7 @@ use mathlib.Core.Path.{_≡_}
 use mathlib.Core.Bool.{false}
 use mathlib.Core.List.{List, []}
 use lib.ListN.{length}
-use Rattle.choice.specs.Pick.{pick}
+use Rattle.choice.specs.When.{when}
 use Rattle.meaning.specs.Refusals.{shortRoom, badLength, badStep}
 use Rattle.meaning.specs.Answer.{tooSmall}
 use Rattle.plan.specs.declared.Plan.{Plan}
@@ -43,7 +43,7 @@ pub record Begun : Type 0 where
 
 -- "15 comes directly after 1 and before all others: at the start before 9 and 10"
 unfoldable pub startAnswer : List ℕ → List ℕ → List ℕ → Answer
-startAnswer q E N = pick (tooSmall (length E) (length N)) (refused shortRoom) (answerTo q)
+startAnswer q E N = when (tooSmall (length E) (length N)) (refused shortRoom) (answerTo q)
 
 -- "beside a refused query's number stands one fixed blank session": that of no steps
 unfoldable pub sessionFor : Answer → List ℕ → Session

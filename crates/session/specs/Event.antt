@@ -18,7 +18,7 @@ use mathlib.Core.Bool.{not}
 use mathlib.Core.List.{List}
 use mir.Val.{boolByte}
 use lib.Dec.{eqb}
-use Rattle.choice.specs.Pick.{pick}
+use Rattle.choice.specs.When.{when}
 use Rattle.meaning.specs.Answer as meaning
 use Rattle.meaning.specs.Refusals.{unfinished}
 use Rattle.numbers.specs.Numbers as numbers
@@ -62,7 +62,7 @@ withNumbers s n =
 -- "A refused call leaves the lent room as it was, too"
 unfoldable pub settled : Session → List ℕ → List ℕ → List ℕ → Came Seat → Done
 settled s E N out c =
-    pick (eqb (c .refusal) 0)
+    when (eqb (c .refusal) 0)
     (record {
       answer = Taken (c .listed);
       session = withNumbers s (c .seat .numbers);
@@ -94,7 +94,7 @@ EventGives s bytes E N out r E′ N′ out′ = toldAs (r .answer) (r .session) 
 
 -- "8: no document element yet, or it is still open"
 unfoldable pub finish : Session → finished.Finish
-finish s = pick (s .ended) (finishing.Ended (s .opened) (s .handed)) (finishing.Refused unfinished)
+finish s = when (s .ended) (finishing.Ended (s .opened) (s .handed)) (finishing.Refused unfinished)
 
 abbrev pub FinishGives : Session → finished.Finish → Type 0
 FinishGives s r = ended r ≡ ended (finish s)

@@ -17,7 +17,7 @@ use mathlib.Core.Path.{_≡_}
 use mathlib.Core.List.{List}
 use lib.Dec.{eqb}
 use lib.ListN.{length}
-use Rattle.choice.specs.Pick.{pick}
+use Rattle.choice.specs.When.{when}
 use Rattle.query.specs.Answer as query
 use Rattle.query_c.specs.Packed.{packed}
 use Rattle.feed.specs.Fed.{Fed, fed}
@@ -51,7 +51,7 @@ abbrev pub beganWith : List ℕ → Begun → Began
 beganWith S b = record { number = packed (b .answer); session = startedBy (b .answer) (b .session) S }
 
 unfoldable pub began : List ℕ → List ℕ → List ℕ → List ℕ → Began
-began q E N S = pick (eqb (length S) sessionRoom) (beganWith S (begun q E N)) (record { number = noSession; session = S })
+began q E N S = when (eqb (length S) sessionRoom) (beganWith S (begun q E N)) (record { number = noSession; session = S })
 
 abbrev pub ExportBegins : List ℕ → List ℕ → List ℕ → List ℕ → ℕ → List ℕ → Type 0
 ExportBegins q E N S r S′ = record { number = r; session = S′ } ≡ began q E N S
@@ -85,7 +85,7 @@ tookWith S d =
 
 unfoldable pub took : List ℕ → List ℕ → List ℕ → List ℕ → List ℕ → Took
 took S bytes E N out =
-    pick (eqb (length S) sessionRoom) (tookWith S (event (sessionIn S) bytes E N out))
+    when (eqb (length S) sessionRoom) (tookWith S (event (sessionIn S) bytes E N out))
     (record { number = noSession; session = S; elements = E; nodes = N; out = out })
 
 abbrev pub ExportTakes : List ℕ → List ℕ → List ℕ → List ℕ → List ℕ → ℕ → List ℕ → List ℕ → List ℕ → List ℕ → Type 0
@@ -103,7 +103,7 @@ pub record Blocked : Type 0 where
   pub counts : List ℕ
 
 unfoldable pub movedBy : ℕ → Session → List ℕ → List ℕ
-movedBy n t S = pick (eqb n 0) S (sessionBytes t)
+movedBy n t S = when (eqb n 0) S (sessionBytes t)
 
 -- the counts are how many events were taken and how many list records stand at the start of the buffer
 abbrev pub blockedWith : List ℕ → Fed Housed → Blocked
@@ -122,8 +122,8 @@ unblocked S E N out C = record { number = noSession; session = S; elements = E; 
 
 unfoldable pub blocked : List ℕ → List ℕ → List ℕ → List ℕ → List ℕ → List ℕ → Blocked
 blocked S es E N out C =
-    pick (eqb (length S) sessionRoom)
-    (pick (eqb (length C) countsRoom) (blockedWith S (fed eventAt (length es / 8) (housed (sessionIn S) E N) es out)) (unblocked S E N out C))
+    when (eqb (length S) sessionRoom)
+    (when (eqb (length C) countsRoom) (blockedWith S (fed eventAt (length es / 8) (housed (sessionIn S) E N) es out)) (unblocked S E N out C))
     (unblocked S E N out C)
 
 abbrev pub ExportRuns :
@@ -151,8 +151,8 @@ unfinished C = record { number = noSession; counts = C }
 unfoldable pub finished : List ℕ → List ℕ → Finished
 finished S C =
     let f : Finish = session.finish (sessionIn S) in
-    pick (eqb (length S) sessionRoom)
-    (pick (eqb (length C) countsRoom) (record { number = endNumber f; counts = countedBy f C }) (unfinished C))
+    when (eqb (length S) sessionRoom)
+    (when (eqb (length C) countsRoom) (record { number = endNumber f; counts = countedBy f C }) (unfinished C))
     (unfinished C)
 
 abbrev pub ExportFinishes : List ℕ → List ℕ → ℕ → List ℕ → Type 0

@@ -16,7 +16,7 @@ use mathlib.Core.List.{List}
 use mir.Val.{boolByte}
 use lib.Dec.{eqb, ltb}
 use lib.ListN.{length, take}
-use Rattle.choice.specs.Pick.{pick}
+use Rattle.choice.specs.When.{when}
 use Rattle.meaning.specs.Refusals.{badRecord, tooManyHeld}
 use Rattle.records.specs.declared.Event.{Event}
 use Rattle.records.specs.declared.Event.the-variants.{Open, Close, Bad}
@@ -58,8 +58,8 @@ openTaken P x n E N out = openBy n N out (openingIn P x (n .depth) (n .held) E N
 
 unfoldable pub onOpen : Plan → ℕ → Numbers → Elements → Queue → List ℕ → After
 onOpen P x n E N out =
-    pick (eqb (refuseOpen n) 0)
-    (pick (overIn P x (n .depth) (n .held) E N) (refusedWith tooManyHeld n E N out) (openTaken P x n E N out))
+    when (eqb (refuseOpen n) 0)
+    (when (overIn P x (n .depth) (n .held) E N) (refusedWith tooManyHeld n E N out) (openTaken P x n E N out))
     (refusedWith (refuseOpen n) n E N out)
 
 -- a close, by the nodes that still wait and how many of them go
@@ -86,7 +86,7 @@ closeTaken P n E N out = closeBy P n E out (movedOut P (n .depth) (n .held) E N)
 
 unfoldable pub onClose : Plan → ℕ → Numbers → Elements → Queue → List ℕ → After
 onClose P x n E N out =
-    pick (eqb (refuseClose n E x) 0) (closeTaken P n E N out) (refusedWith (refuseClose n E x) n E N out)
+    when (eqb (refuseClose n E x) 0) (closeTaken P n E N out) (refusedWith (refuseClose n E x) n E N out)
 
 -- "2: not 8 bytes, or a bad record"
 unfoldable pub step : Plan → Event → Numbers → Elements → Queue → List ℕ → After

@@ -11,7 +11,7 @@ use Prim.Native.Nat.{ℕ, _+_, _-_, _%_, _^_, _≤_, _<_}
 use mathlib.Core.Bool.{not}
 use mir.Val.{boolByte}
 use lib.Dec.{eqb, leb, ltb}
-use Rattle.choice.specs.Pick.{pick}
+use Rattle.choice.specs.When.{when}
 use Rattle.meaning.specs.Limits.{depthLimit, heldLimit, nodeLimit}
 use Rattle.meaning.specs.Refusals.{afterEnd, wrongClose, tooDeep, tooManyNodes, tooManyHeld}
 use Rattle.element.specs.Element.{Elements, frameAt}
@@ -20,10 +20,10 @@ use Rattle.numbers.specs.Numbers.{Numbers, numbersOf}
 -- "3: the document element has been closed", "5: an open at depth 256", "6: an open when 16,777,215 nodes have been opened"
 unfoldable pub refuseOpen : Numbers → ℕ
 refuseOpen n =
-    pick (not (eqb (n .ended) 0)) afterEnd
-    (pick (leb depthLimit (n .depth)) tooDeep
-    (pick (leb nodeLimit (n .opened)) tooManyNodes
-    (pick (ltb heldLimit (n .held)) tooManyHeld 0)))
+    when (not (eqb (n .ended) 0)) afterEnd
+    (when (leb depthLimit (n .depth)) tooDeep
+    (when (leb nodeLimit (n .opened)) tooManyNodes
+    (when (ltb heldLimit (n .held)) tooManyHeld 0)))
 
 pub record OpenFits (n : Numbers) : Type 0 where
   pub deep : n .depth < depthLimit
@@ -33,10 +33,10 @@ pub record OpenFits (n : Numbers) : Type 0 where
 -- "3: the document element has been closed", "4: a close with nothing open, or with another name than the innermost open element"
 unfoldable pub refuseClose : Numbers → Elements → ℕ → ℕ
 refuseClose n E x =
-    pick (not (eqb (n .ended) 0)) afterEnd
-    (pick (eqb (n .depth) 0) wrongClose
-    (pick (ltb depthLimit (n .depth)) wrongClose
-    (pick (eqb (frameAt E (n .depth - 1) .name) x) (pick (ltb heldLimit (n .held)) tooManyHeld 0) wrongClose)))
+    when (not (eqb (n .ended) 0)) afterEnd
+    (when (eqb (n .depth) 0) wrongClose
+    (when (ltb depthLimit (n .depth)) wrongClose
+    (when (eqb (frameAt E (n .depth - 1) .name) x) (when (ltb heldLimit (n .held)) tooManyHeld 0) wrongClose)))
 
 pub record CloseFits (n : Numbers) : Type 0 where
   pub some : 0 < n .depth

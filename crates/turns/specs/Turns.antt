@@ -18,7 +18,7 @@ use mathlib.Core.List.{List, [], _++_}
 use mathlib.Core.Option.{Option, none, some}
 use lib.Dec.{eqb}
 use lib.ListN.{length, drop}
-use Rattle.choice.specs.Pick.{pick}
+use Rattle.choice.specs.When.{when}
 use Rattle.meaning.specs.Limits.{nodeLimit}
 use Rattle.meaning.specs.Stream.{document}
 use Rattle.meaning.specs.Standing.{listed}
@@ -50,7 +50,7 @@ pub record Started (session : Session) : Type 0 where
   pub begun : BegunFor query session
 
 unfoldable pub moreToDo : ℕ → Bool → Bool → Bool
-moreToDo refusal ended written = pick (eqb refusal 0) (pick ended false written) false
+moreToDo refusal ended written = when (eqb refusal 0) (when ended false written) false
 
 pub data TurnTaken (file : File) (s : State) (input E N out : List ℕ) (s′ : State) (input′ E′ N′ : List ℕ) : Type 0 where
   worked : 8 ≤ s .end - s .from → input′ ≡ input → Worked s input E N out s′ E′ N′ → TurnTaken file s input E N out s′ input′ E′ N′

@@ -17,7 +17,7 @@ use Prim.Native.Nat.{ℕ, _+_, _-_, _*_, _/_, _%_}
 use mathlib.Core.List.{List, []}
 use lib.Dec.{eqb, ltb}
 use lib.ListN.{getD, set}
-use Rattle.choice.specs.Pick.{pick}
+use Rattle.choice.specs.When.{when}
 use Rattle.words.specs.Words.{words, bytesOf}
 use Rattle.words.specs.Rows.{rows, field}
 
@@ -44,7 +44,7 @@ module _ {A : Type 0} where
     blank = S .make (λ g. 0)
 
     abbrev pub withField : ℕ → ℕ → A → A
-    withField g v a = S .make (λ h. pick (eqb h g) v (S .field h a))
+    withField g v a = S .make (λ h. when (eqb h g) v (S .field h a))
 
     abbrev pub spareOf : (ℕ → ℕ) → List ℕ
     spareOf r = rows (S .wide - S .fields) (λ j. r (S .fields + j))
@@ -63,7 +63,7 @@ module _ {A : Type 0} where
     putAt i g v R = setAt i (withField g v (at R i)) R
 
     unfoldable pub numberAt : Records A → ℕ → ℕ → ℕ
-    numberAt R i g = pick (ltb g (S .fields)) (S .field g (at R i)) (getD (getD (R .spare) i []) (g - S .fields) 0)
+    numberAt R i g = when (ltb g (S .fields)) (S .field g (at R i)) (getD (getD (R .spare) i []) (g - S .fields) 0)
 
     unfoldable pub laidNumbers : Records A → List ℕ
     laidNumbers R = rows (S .wide * S .count) (λ j. numberAt R (j / S .wide) (j % S .wide))

@@ -13,7 +13,7 @@ use native.Mathlib.Omega.{arith}
 use mathlib.Core.Path.{_≡_, refl, sym, ap, _∙_}
 use mathlib.Core.List.{List}
 use lib.ListN.{length, getD, set}
-use Rattle.choice.specs.Pick.{pick}
+use Rattle.choice.specs.When.{when}
 use Rattle.meaning.specs.Limits.{depthLimit, elementRecord, elementsNeeded}
 use Rattle.engine.specs.Quick.{Frame}
 use Rattle.words.specs.Words.{words, Bytes}
@@ -76,10 +76,10 @@ module _ (bs : List ℕ) (i : ℕ) (h : i < depthLimit) where
 
   pub raise-parts : (b m : ℕ) (E₁ E₂ : Elements) → E₁ ≡ putAt shape i 2 b E → E₂ ≡ putAt shape i 3 m E₁ → E₂ ≡ raisedIn i b m E
   unfolding putAt raisedIn
-  raise-parts b m E₁ E₂ e₁ e₂ = again _ (withField shape 3 m) E₁ E₂ e₁ e₂ ∙ ap (λ f. setAt i f E) (unfold pick in refl)
+  raise-parts b m E₁ E₂ e₁ e₂ = again _ (withField shape 3 m) E₁ E₂ e₁ e₂ ∙ ap (λ f. setAt i f E) (unfold when in refl)
 
   pub refresh-part : (s : ℕ) (E₁ : Elements) → E₁ ≡ putAt shape i 4 s E → E₁ ≡ refreshedIn i s E
-  unfolding pick putAt refreshedIn
+  unfolding when putAt refreshedIn
   refresh-part s E₁ e = e
 
   pub open-parts :
@@ -88,9 +88,9 @@ module _ (bs : List ℕ) (i : ℕ) (h : i < depthLimit) where
   unfolding putAt raisedIn openedIn
   open-parts name pass met possible E₁ E₂ E₃ E₄ E₅ e₁ e₂ e₃ e₄ e₅ =
       let s₂ = again _ (withField shape 1 pass) E₁ E₂ e₁ e₂ in
-      let s₃ = again _ (λ f. withField shape 3 met (withField shape 2 0 f)) E₂ E₃ s₂ (e₃ ∙ ap (λ f. setAt i f E₂) (unfold pick in refl)) in
+      let s₃ = again _ (λ f. withField shape 3 met (withField shape 2 0 f)) E₂ E₃ s₂ (e₃ ∙ ap (λ f. setAt i f E₂) (unfold when in refl)) in
       let s₄ = again _ (withField shape 4 0) E₃ E₄ s₃ e₄ in
-      again _ (withField shape 5 possible) E₄ E₅ s₄ e₅ ∙ ap (λ f. setAt i f E) (unfold pick in refl)
+      again _ (withField shape 5 possible) E₄ E₅ s₄ e₅ ∙ ap (λ f. setAt i f E) (unfold when in refl)
 
 pub elements-long : (R : Elements) → length (laid shape R) ≡ elementsNeeded
 elements-long R = records.laid-length shape whole R ∙ room-is

@@ -11,7 +11,7 @@ use mathlib.Core.List.{List}
 use lib.Dec.{eqb, ltb}
 use lib.ListN.{length, take, drop}
 use borrow.Author.Tests.{ltb-false}
-use Rattle.choice.specs.Pick.{pick, pick-ap, pick-known, pick-yes, pick-no}
+use Rattle.choice.specs.When.{when, when-ap, when-known, when-yes, when-no}
 use Rattle.meaning.specs.Limits.{outputNeeded}
 use Rattle.feed.specs.Fed.{Came, Fed, one, andThen, fed}
 
@@ -30,10 +30,10 @@ module _ {S T : Type 0} (f : T → S) where
     module _ (alike : Alike) where
       -- one event and what follows
       next-S : ℕ → List ℕ → Came S → Fed S
-      next-S n es c = pick (eqb (c .refusal) 0) (andThen (one c) (fed one-S n (c .seat) (drop 8 es) (drop (4 * c .listed) (c .out)))) (one c)
+      next-S n es c = when (eqb (c .refusal) 0) (andThen (one c) (fed one-S n (c .seat) (drop 8 es) (drop (4 * c .listed) (c .out)))) (one c)
 
       next-T : ℕ → List ℕ → Came T → Fed T
-      next-T n es c = pick (eqb (c .refusal) 0) (andThen (one c) (fed one-T n (c .seat) (drop 8 es) (drop (4 * c .listed) (c .out)))) (one c)
+      next-T n es c = when (eqb (c .refusal) 0) (andThen (one c) (fed one-T n (c .seat) (drop 8 es) (drop (4 * c .listed) (c .out)))) (one c)
 
       then-across : (r f′ : Fed T) → andThen (allAcross r) (allAcross f′) ≡ allAcross (andThen r f′)
       unfolding andThen
@@ -46,18 +46,18 @@ module _ {S T : Type 0} (f : T → S) where
           next-S n es (across c) ≡ allAcross (next-T n es c)
       unfolding next-S next-T
       next-across n es c e =
-          ap (λ (r : Fed S). pick (eqb (c .refusal) 0) (andThen (one (across c)) r) (one (across c))) e
-          ∙ ap (λ (r : Fed S). pick (eqb (c .refusal) 0) r (one (across c))) (then-across (one c) _)
-          ∙ sym (pick-ap (λ (r : Fed T). allAcross r) (eqb (c .refusal) 0) _ _)
+          ap (λ (r : Fed S). when (eqb (c .refusal) 0) (andThen (one (across c)) r) (one (across c))) e
+          ∙ ap (λ (r : Fed S). when (eqb (c .refusal) 0) r (one (across c))) (then-across (one c) _)
+          ∙ sym (when-ap (λ (r : Fed T). allAcross r) (eqb (c .refusal) 0) _ _)
 
       pub fed-across : (n : ℕ) (t : T) (es out : List ℕ) → Ok t → fed one-S n (f t) es out ≡ allAcross (fed one-T n t es out)
       unfolding fed next-S next-T
       fed-across zero t es out ok = refl
       fed-across (suc n) t es out ok =
           let c : Came T = one-T t (take 8 es) out in
-          pick-known (λ (r : Fed S). r ≡ allAcross (fed one-T (suc n) t es out)) (ltb (length out) outputNeeded) _ _
-          (λ e. ap (λ (r : Fed T). allAcross r) (pick-yes _ _ _ _ e refl))
+          when-known (λ (r : Fed S). r ≡ allAcross (fed one-T (suc n) t es out)) (ltb (length out) outputNeeded) _ _
+          (λ e. ap (λ (r : Fed T). allAcross r) (when-yes _ _ _ _ e refl))
           (λ e.
           ap (next-S n es) (alike .same t (take 8 es) out ok (ltb-false _ _ e))
           ∙ next-across n es c (fed-across n (c .seat) (drop 8 es) (drop (4 * c .listed) (c .out)) (alike .stays t (take 8 es) out ok))
-          ∙ ap (λ (r : Fed T). allAcross r) (pick-no _ _ _ _ e refl))
+          ∙ ap (λ (r : Fed T). allAcross r) (when-no _ _ _ _ e refl))

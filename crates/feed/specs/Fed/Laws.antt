@@ -19,10 +19,9 @@ use lib.Dec.{eqb, leb}
 use lib.ListN.{length, take, drop, take-append-drop, length-append, length-drop, drop-of-length-le}
 use lib.Seq.{drop-drop, take-append-add, drop-append-add, length-take-le, take-all}
 use borrow.Author.Tests.{eqb-true, eqb-false, eq-eqb, ne-eqb, leb-true, leb-false, lt-ltb, le-ltb}
-use Rattle.choice.specs.Pick.{pick, pick-true, pick-false, pick-known, never}
+use Rattle.choice.specs.When.{when, when-true, when-false, when-known, never}
 use Rattle.choice.specs.Count.{positive, boolByte-le}
 use Rattle.meaning.specs.Limits.{outputNeeded}
-use Rattle.meaning.specs.Limits.Laws.{held-is, output-is}
 use Rattle.feed.specs.Fed.{Came, Fed, none, one, andThen, fed, resumed, Underway, goesOn, Goes, restOf, recordAt, givenBack}
 
 -- whether another event is looked at
@@ -30,9 +29,9 @@ use Rattle.feed.specs.Fed.{Came, Fed, none, one, andThen, fed, resumed, 
 pub goes-true : (left refusal room : ℕ) (b : Bool) → b ≡ goesOn left refusal room → b ≡ true → Goes left refusal room
 unfolding goesOn
 goes-true left refusal room b e h =
-    pick-known (λ (d : Bool). d ≡ true → Goes left refusal room) _ _ _ (λ t k. never k)
+    when-known (λ (d : Bool). d ≡ true → Goes left refusal room) _ _ _ (λ t k. never k)
     (λ t.
-    pick-known (λ (d : Bool). d ≡ true → Goes left refusal room) _ _ _
+    when-known (λ (d : Bool). d ≡ true → Goes left refusal room) _ _ _
     (λ z k. record { more = positive left (eqb-false _ _ t); unrefused = eqb-true _ _ z; wide = leb-true _ _ k })
     (λ z k. never k)) (sym e ∙ h)
 
@@ -111,7 +110,7 @@ module _ {S : Type 0} where
     none-underway s es out =
         record {
           told =
-              pick-true _ _ _ (eq-eqb 0 0 refl) ∙ none-andThen s out _
+              when-true _ _ _ (eq-eqb 0 0 refl) ∙ none-andThen s out _
               ∙ ap (λ (m : ℕ). fed take-one m s es out) (sub-zero (length es / 8));
           within = omega arith;
           fits = omega arith;
@@ -123,11 +122,11 @@ module _ {S : Type 0} where
     unfolding fed goesOn
     fed-stopped zero s es out h = refl
     fed-stopped (suc n) s es out h =
-        pick-true _ _ _
+        when-true _ _ _
         (lt-ltb (length out) outputNeeded
         (leb-false outputNeeded (length out)
-        (sym (pick-false (eqb (suc n) 0) false (pick (eqb 0 0) (leb outputNeeded (length out)) false) (ne-eqb (suc n) 0 (λ z. omega arith))
-        ∙ pick-true (eqb 0 0) (leb outputNeeded (length out)) false (eq-eqb 0 0 refl))
+        (sym (when-false (eqb (suc n) 0) false (when (eqb 0 0) (leb outputNeeded (length out)) false) (ne-eqb (suc n) 0 (λ z. omega arith))
+        ∙ when-true (eqb 0 0) (leb outputNeeded (length out)) false (eq-eqb 0 0 refl))
         ∙ h)))
 
     resumed-stopped :
@@ -135,7 +134,7 @@ module _ {S : Type 0} where
         resumed take-one n es r ≡ r
     unfolding resumed
     resumed-stopped n es r h =
-        pick-known (λ (x : Fed S). x ≡ r) _ _ _
+        when-known (λ (x : Fed S). x ≡ r) _ _ _
         (λ t.
         let z : r .refusal ≡ 0 = eqb-true _ _ t in
         ap (andThen r)
@@ -162,39 +161,39 @@ module _ {S : Type 0} where
       rest-is :
           (m : ℕ) → n - r .taken ≡ suc m →
           fed take-one (n - r .taken) (r .seat) (drop (8 * r .taken) es) (drop (4 * r .listed) (r .out))
-          ≡ pick (eqb (c .refusal) 0) (andThen (one c) (next m)) (one c)
+          ≡ when (eqb (c .refusal) 0) (andThen (one c) (next m)) (one c)
       unfolding fed
       rest-is m e =
           let w : outputNeeded ≤ length (drop (4 * r .listed) (r .out)) = omega (arith, length-drop (4 * r .listed) (r .out)) in
           ap (λ k. fed take-one k (r .seat) (drop (8 * r .taken) es) (drop (4 * r .listed) (r .out))) e
-          ∙ pick-false _ _ _ (le-ltb _ _ w)
-          ∙ ap (λ (y : Came S). pick (eqb (y .refusal) 0)
+          ∙ when-false _ _ _ (le-ltb _ _ w)
+          ∙ ap (λ (y : Came S). when (eqb (y .refusal) 0)
           (andThen (one y) (fed take-one m (y .seat) (drop 8 (drop (8 * r .taken) es)) (drop (4 * y .listed) (y .out)))) (one y)) (sym is)
 
       turn-either :
           (b : Bool) → eqb (c .refusal) 0 ≡ b → (m : ℕ) → n - r .taken ≡ suc m →
-          resumed take-one n es (andThen r (one c)) ≡ andThen r (pick b (andThen (one c) (next m)) (one c))
+          resumed take-one n es (andThen r (one c)) ≡ andThen r (when b (andThen (one c) (next m)) (one c))
       unfolding resumed andThen
       turn-either true e m em =
           let t : boolByte (eqb (c .refusal) 0) ≡ 1 = ap boolByte e in
           let k : n - (r .taken + boolByte (eqb (c .refusal) 0)) ≡ m = omega arith in
           let a : 8 * (r .taken + boolByte (eqb (c .refusal) 0)) ≡ 8 * r .taken + 8 = omega arith in
-          pick-true _ _ _ e
+          when-true _ _ _ e
           ∙ ap (andThen (andThen r (one c)))
           (ap (λ j. fed take-one j (c .seat) (drop (8 * (r .taken + boolByte (eqb (c .refusal) 0))) es)
           (drop (4 * (r .listed + c .listed)) (take (4 * r .listed) (r .out) ++ c .out))) k
           ∙ ap₂ (λ x y. fed take-one m (c .seat) x y) (ap (λ j. drop j es) a ∙ sym (drop-drop 8 (8 * r .taken) es)) (drop-both r (one c) fits))
           ∙ sym (andThen-assoc r (one c) fits (next m))
-          ∙ ap (andThen r) (sym (pick-true true (andThen (one c) (next m)) (one c) refl))
+          ∙ ap (andThen r) (sym (when-true true (andThen (one c) (next m)) (one c) refl))
       turn-either false e m em =
-          pick-false _ _ _ e ∙ ap (andThen r) (sym (pick-false false (andThen (one c) (next m)) (one c) refl))
+          when-false _ _ _ e ∙ ap (andThen r) (sym (when-false false (andThen (one c) (next m)) (one c) refl))
 
       turn-is : resumed take-one n es (andThen r (one c)) ≡ resumed take-one n es r
       unfolding resumed
       turn-is =
           let m : ℕ = n - r .taken - 1 in
           let e : n - r .taken ≡ suc m = omega arith in
-          turn-either (eqb (c .refusal) 0) refl m e ∙ ap (andThen r) (sym (rest-is m e)) ∙ sym (pick-true _ _ _ (eq-eqb (r .refusal) 0 z))
+          turn-either (eqb (c .refusal) 0) refl m e ∙ ap (andThen r) (sym (rest-is m e)) ∙ sym (when-true _ _ _ (eq-eqb (r .refusal) 0 z))
 
     pub turn-underway :
         (s : S) (es out : List ℕ) (r : Fed S) → Underway take-one s es out r → Goes (length es / 8 - r .taken) (r .refusal) (length (r .out) - 4 * r .listed) →

@@ -13,7 +13,7 @@ use mathlib.Core.List.{List}
 use lib.Dec.{eqb}
 use lib.ListN.{length}
 use borrow.Author.Tests.{eqb-true, eqb-false}
-use Rattle.choice.specs.Pick.{pick-yes, pick-no, pick-either}
+use Rattle.choice.specs.When.{when-yes, when-no, when-either}
 use Rattle.meaning.specs.Record.{eventOf}
 use Rattle.meaning.specs.Limits.{elementsNeeded, nodesNeeded}
 use Rattle.records.specs.Read.{shown}
@@ -54,10 +54,10 @@ module _ (P : Plan) (n : Numbers) (E N bytes out : List ℕ) (longE : length E �
       came refusal listed (seat n′ E′ N′) out′ ≡ cameTo (seat n E N) out (after refusal listed n′ (elementsIn E′) (queueIn N′) out′)
   unfolding cameTo
   either true e =
-      pick-yes _ _ _ _ e
+      when-yes _ _ _ _ e
       (ap (λ (r : ℕ). came r listed (seat n′ E′ N′) out′) (eqb-true _ _ e)
       ∙ same 0 refl refl (sym (elements-laid E′ longE′ bE′)) (sym (nodes-laid N′ longN′ bN′)) refl)
-  either false e = pick-no _ _ _ _ e (came-refused (eqb-false _ _ e))
+  either false e = when-no _ _ _ _ e (came-refused (eqb-false _ _ e))
 
   pub step-came :
       _≡_ {A = Came Seat}
@@ -73,12 +73,12 @@ module _ (P : Plan) (s : Seat) (bytes out : List ℕ) where
   pub refused-at : (stepAt P s bytes out .refusal ≡ 0 → ⊥) → stepAt P s bytes out ≡ came (stepAt P s bytes out .refusal) 0 s out
   unfolding stepAt cameTo
   refused-at =
-      pick-either (λ (c : Came Seat). (c .refusal ≡ 0 → ⊥) → c ≡ came (c .refusal) 0 s out) (eqb (stepped .refusal) 0) _ _ (λ f. absurd (f refl)) (λ f. refl)
+      when-either (λ (c : Came Seat). (c .refusal ≡ 0 → ⊥) → c ≡ came (c .refusal) 0 s out) (eqb (stepped .refusal) 0) _ _ (λ f. absurd (f refl)) (λ f. refl)
 
   pub whole-step : Whole s → Whole (stepAt P s bytes out .seat)
   unfolding stepAt cameTo
   whole-step w =
-      pick-either (λ (c : Came Seat). Whole (c .seat)) (eqb (stepped .refusal) 0) _ _
+      when-either (λ (c : Came Seat). Whole (c .seat)) (eqb (stepped .refusal) 0) _ _
       (record {
         elements = elements-long (stepped .elements);
         nodes = nodes-long (stepped .nodes);

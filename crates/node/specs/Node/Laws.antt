@@ -13,7 +13,7 @@ use native.Mathlib.Omega.{arith}
 use mathlib.Core.Path.{_≡_, refl, sym, ap, _∙_}
 use mathlib.Core.List.{List}
 use lib.ListN.{length, getD, set}
-use Rattle.choice.specs.Pick.{pick}
+use Rattle.choice.specs.When.{when}
 use Rattle.meaning.specs.Limits.{heldLimit, waitingRecord, nodesNeeded}
 use Rattle.engine.specs.Quick.{Waiting}
 use Rattle.words.specs.Words.{words, Bytes}
@@ -72,7 +72,7 @@ module _ (bs : List ℕ) (i : ℕ) (h : i < heldLimit) where
   unfolding putAt wroteIn
   write-parts node level need N₁ N₂ N₃ e₁ e₂ e₃ =
       let s₂ = again _ (withField shape 1 level) N₁ N₂ e₁ e₂ in
-      again _ (withField shape 2 need) N₂ N₃ s₂ e₃ ∙ ap (λ w. setAt i w N) (unfold pick in refl)
+      again _ (withField shape 2 need) N₂ N₃ s₂ e₃ ∙ ap (λ w. setAt i w N) (unfold when in refl)
 
 pub nodes-long : (R : Queue) → length (laid shape R) ≡ nodesNeeded
 nodes-long R = records.laid-length shape whole R ∙ room-is

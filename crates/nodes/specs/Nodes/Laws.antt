@@ -25,7 +25,7 @@ use lib.ListN.{List·getD-map, List·getD-eq-default}
 use lib.Seq.{sets, take-suc, take-suc-set, take-set-lt, drop-cons, drop-set-lt}
 use lib.Seq.{length-take-le, getD-take}
 use borrow.Author.Tests.{eq-eqb, ne-eqb}
-use Rattle.choice.specs.Pick.{pick, pick-yes, pick-no}
+use Rattle.choice.specs.When.{when, when-yes, when-no}
 use Rattle.choice.specs.Count.{down}
 use Rattle.meaning.specs.Limits.{depthLimit, heldLimit}
 use Rattle.sets.specs.Set.{overlaps}
@@ -209,14 +209,14 @@ module _ (stays : Bool) (end x to need : ℕ) (N : Queue) where
       (N′ : Queue) → stays ≡ true → N′ ≡ wroteIn end x to need N →
       _≡_ {A = Moved} (record { held = end + 1; queue = N′ }) (keptIf stays end x to need N)
   unfolding keptIf
-  keep-yes N′ h e = pick-yes _ _ _ _ h (ap (λ (n : Queue). record { held = end + 1; queue = n }) e)
+  keep-yes N′ h e = when-yes _ _ _ _ h (ap (λ (n : Queue). record { held = end + 1; queue = n }) e)
 
   pub keep-no : stays ≡ false → _≡_ {A = Moved} (record { held = end; queue = N }) (keptIf stays end x to need N)
   unfolding keptIf
-  keep-no h = pick-no _ _ _ _ h refl
+  keep-no h = when-no _ _ _ _ h refl
 
 pub kept-held : (stays : Bool) (end x to need : ℕ) (N : Queue) (r : Moved) → r ≡ keptIf stays end x to need N → (end ≤ r .held) × (r .held ≤ end + 1)
-unfolding keptIf pick
+unfolding keptIf when
 kept-held true end x to need N r e = let h : r .held ≡ end + 1 = ap (λ (m : Moved). m .held) e in (omega arith, omega arith)
 kept-held false end x to need N r e = let h : r .held ≡ end = ap (λ (m : Moved). m .held) e in (omega arith, omega arith)
 
@@ -244,7 +244,7 @@ module _ (P : Plan) (m ready to held i end : ℕ) (bs : List ℕ) (fits : held �
   either :
       (b : Bool) → overlaps (w′ .need) ready ≡ b → (r : Moved) → r ≡ keptIf b end (w′ .node) (w′ .level) (w′ .need) N →
       movedFrom P m ready to held (i + 1) (r .held) (r .queue) ≡ movedBy end N (keepIf b w′ st)
-  unfolding keptIf pick wroteIn movedFrom keepIf
+  unfolding keptIf when wroteIn movedFrom keepIf
   either true e r er =
       let l : end < length (N .list) = omega (arith, nodes-length bs) in
       let a : end + 1 + length st ≡ end + suc (length st) = omega arith in
@@ -372,7 +372,7 @@ module _ (go : Going) (held number level : ℕ) (bs out : List ℕ) where
   join-all out₁ out₂ a h room e₁ e₂ =
       let ns : List ℕ = numbers (take (go .went) (queueIn bs .list)) in
       let k : length ns ≡ go .went = numbers-length bs (go .went) h in
-      pick-yes (go .all) _ _ _ a
+      when-yes (go .all) _ _ _ a
       (ap (λ (o : List ℕ). record { held = 0; queue = queueIn bs; out = o })
       (e₂ ∙ ap₂ (λ o j. sets o (4 * j) (nodeBytes number)) e₁ (sym k) ∙ buffer-snoc ns number out (omega arith)))
 
@@ -382,8 +382,8 @@ module _ (go : Going) (held number level : ℕ) (bs out : List ℕ) where
         _≡_ {A = Joined} (record { held = held - go .went + 1; queue = N′; out = h .out }) (joined go held number level (queueIn bs) out)
     unfolding joined
     join-alive N′ j e =
-        pick-no (go .all) _ _ _ not-all
-        (pick-yes (go .joins) _ _ _ j (ap (λ (x : Queue). record { held = held - go .went + 1; queue = x; out = h .out }) e)
+        when-no (go .all) _ _ _ not-all
+        (when-yes (go .joins) _ _ _ j (ap (λ (x : Queue). record { held = held - go .went + 1; queue = x; out = h .out }) e)
         ∙ ap (joinedTo (go .joins) (held - go .went) number level) handed)
 
     pub join-dead :
@@ -391,4 +391,4 @@ module _ (go : Going) (held number level : ℕ) (bs out : List ℕ) where
         _≡_ {A = Joined} (record { held = held - go .went; queue = h .queue; out = h .out }) (joined go held number level (queueIn bs) out)
     unfolding joined
     join-dead j =
-        pick-no (go .all) _ _ _ not-all (pick-no (go .joins) _ _ _ j refl ∙ ap (joinedTo (go .joins) (held - go .went) number level) handed)
+        when-no (go .all) _ _ _ not-all (when-no (go .joins) _ _ _ j refl ∙ ap (joinedTo (go .joins) (held - go .went) number level) handed)

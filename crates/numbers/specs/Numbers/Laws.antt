@@ -12,7 +12,7 @@ use mathlib.Core.Path.{_≡_, refl, sym, ap, _∙_}
 use mathlib.Core.List.{List, [], _∷_}
 use lib.ListN.{length, getD, set}
 use lib.Seq.{getD-set-same}
-use Rattle.choice.specs.Pick.{pick}
+use Rattle.choice.specs.When.{when}
 use Rattle.words.specs.Words.{words, Bytes}
 use Rattle.words.specs.Rows.{rows}
 use Rattle.words.specs.Records.{Records, setAt, blank, room, at, withField, putAt, recordsIn}
@@ -77,7 +77,7 @@ module _ (bs : List ℕ) where
       let s₄ = again _ (withField shape 3 handed) R₃ R₄ s₃ e₄ in
       ap (λ X. at shape X 0) (again _ (withField shape 4 ended) R₄ (recordIn bs′) s₄ e₅)
       ∙ getD-set-same (R .list) 0 _ (blank shape) has
-      ∙ (unfold pick in refl)
+      ∙ (unfold when in refl)
 
 -- one record of fields alone is its numbers
 only : (bs : List ℕ) → recordIn bs ≡ record { list = numbersIn bs ∷ []; spare = [] ∷ [] }

@@ -15,7 +15,7 @@ use mathlib.Core.List.{List}
 use lib.Dec.{eqb, ltb}
 use lib.ListN.{length}
 use borrow.Author.Tests.{eqb-true, eq-eqb, ne-eqb}
-use Rattle.choice.specs.Pick.{pick, pick-true, pick-false, pick-ap, pick-either, never}
+use Rattle.choice.specs.When.{when, when-true, when-false, when-ap, when-either, never}
 use Rattle.meaning.specs.Answer.{tooSmall}
 use Rattle.meaning.specs.Limits.{outputNeeded}
 use Rattle.meaning.specs.Record.{eventOf}
@@ -55,19 +55,19 @@ some-after Bad = ne-eqb badRecord 0 (λ z. omega arith)
 module _ (P : Plan) (n : Numbers) (E : Elements) (N : Queue) (out : List ℕ) (over : eqb (n .ended) 0 ≡ false) where
   open-after : refuseOpen n ≡ refusals.afterEnd
   unfolding refuseOpen
-  open-after = pick-true _ _ _ (ap not over)
+  open-after = when-true _ _ _ (ap not over)
 
   close-after : (x : ℕ) → refuseClose n E x ≡ refusals.afterEnd
   unfolding refuseClose
-  close-after x = pick-true _ _ _ (ap not over)
+  close-after x = when-true _ _ _ (ap not over)
 
   some-is : (r : ℕ) → r ≡ refusals.afterEnd → eqb r 0 ≡ false
   some-is r e = ap (λ (k : ℕ). eqb k 0) e ∙ ne-eqb refusals.afterEnd 0 (λ z. omega arith)
 
   step-after : (e : Event) → step P e n E N out .refusal ≡ afterEnd e
   unfolding step onOpen onClose afterEnd
-  step-after (Open x) = ap (λ (a : After). a .refusal) (pick-false _ _ _ (some-is (refuseOpen n) open-after)) ∙ open-after
-  step-after (Close x) = ap (λ (a : After). a .refusal) (pick-false _ _ _ (some-is (refuseClose n E x) (close-after x))) ∙ close-after x
+  step-after (Open x) = ap (λ (a : After). a .refusal) (when-false _ _ _ (some-is (refuseOpen n) open-after)) ∙ open-after
+  step-after (Close x) = ap (λ (a : After). a .refusal) (when-false _ _ _ (some-is (refuseClose n E x) (close-after x))) ∙ close-after x
   step-after Bad = refl
 
 module _ (P : Plan) (s : Seat) (bytes out : List ℕ) where
@@ -78,12 +78,12 @@ module _ (P : Plan) (s : Seat) (bytes out : List ℕ) where
   unfolding stepAt cameTo
   at-after over =
       let is = step-after P (s .numbers) (elementsIn (s .elements)) (queueIn (s .nodes)) out over e in
-      ap (λ (c : Came Seat). c .refusal) (pick-false _ _ _ (ap (λ (k : ℕ). eqb k 0) is ∙ some-after e)) ∙ is
+      ap (λ (c : Came Seat). c .refusal) (when-false _ _ _ (ap (λ (k : ℕ). eqb k 0) is ∙ some-after e)) ∙ is
 
   at-said : s .numbers .ended ≤ 1 → stepAt P s bytes out .seat .numbers .ended ≤ 1
   unfolding stepAt cameTo
   at-said said =
-      pick-either (λ (c : Came Seat). c .seat .numbers .ended ≤ 1) _ _ _
+      when-either (λ (c : Came Seat). c .seat .numbers .ended ≤ 1) _ _ _
       (ended-said P (s .numbers) (elementsIn (s .elements)) (queueIn (s .nodes)) out said e) said
 
 -- an event
@@ -92,28 +92,28 @@ module _ (P : Plan) (s : Seat) (bytes out : List ℕ) where
   pub offered-said : s .numbers .ended ≤ 1 → offered P s bytes out .seat .numbers .ended ≤ 1
   unfolding offered
   offered-said said =
-      pick-either Said _ _ _ said (pick-either Said _ _ _ said (at-said P (needed s) bytes out said))
+      when-either Said _ _ _ said (when-either Said _ _ _ said (at-said P (needed s) bytes out said))
     where
       Said : Came Seat → Type 0
       Said c = c .seat .numbers .ended ≤ 1
 
   abbrev lowest : ℕ
   lowest =
-      pick (ltb (length out) outputNeeded) shortOutput
-      (pick (tooSmall (length (s .elements)) (length (s .nodes))) shortRoom (afterEnd (shown (eventOf bytes))))
+      when (ltb (length out) outputNeeded) shortOutput
+      (when (tooSmall (length (s .elements)) (length (s .nodes))) shortRoom (afterEnd (shown (eventOf bytes))))
 
   offered-after : eqb (s .numbers .ended) 0 ≡ false → offered P s bytes out .refusal ≡ lowest
   unfolding offered
   offered-after over =
-      pick-ap (λ (c : Came Seat). c .refusal) _ _ _
-      ∙ ap (pick (ltb (length out) outputNeeded) shortOutput)
-      (pick-ap (λ (c : Came Seat). c .refusal) _ _ _
-      ∙ ap (pick (tooSmall (length (s .elements)) (length (s .nodes))) shortRoom) (at-after P (needed s) bytes out over))
+      when-ap (λ (c : Came Seat). c .refusal) _ _ _
+      ∙ ap (when (ltb (length out) outputNeeded) shortOutput)
+      (when-ap (λ (c : Came Seat). c .refusal) _ _ _
+      ∙ ap (when (tooSmall (length (s .elements)) (length (s .nodes))) shortRoom) (at-after P (needed s) bytes out over))
 
   some-lowest : eqb lowest 0 ≡ false
   some-lowest =
-      pick-either Some _ _ _ (ne-eqb shortOutput 0 (λ z. omega arith))
-      (pick-either Some _ _ _ (ne-eqb shortRoom 0 (λ z. omega arith)) (some-after (shown (eventOf bytes))))
+      when-either Some _ _ _ (ne-eqb shortOutput 0 (λ z. omega arith))
+      (when-either Some _ _ _ (ne-eqb shortRoom 0 (λ z. omega arith)) (some-after (shown (eventOf bytes))))
     where
       Some : ℕ → Type 0
       Some r = eqb r 0 ≡ false

@@ -15,7 +15,7 @@ use mathlib.Core.List.{List, _++_}
 use lib.ListN.{length, take, drop, take-append-drop, length-append}
 use lib.Seq.{take-at, drop-at}
 use borrow.Author.Tests.{le-ltb}
-use Rattle.choice.specs.Pick.{pick, pick-false, pick-no, pick-either}
+use Rattle.choice.specs.When.{when, when-false, when-no, when-either}
 use Rattle.lent.specs.Lent.{refuseRoom, refuseLent}
 use Rattle.meaning.specs.Answer.{tooSmall}
 use Rattle.meaning.specs.Answer.Laws.{not-small}
@@ -32,9 +32,9 @@ use Rattle.offer.specs.Offer.{needed, longer, beside, offered, OfferGive
 -- by the tests of what is lent
 
 lent-cases :
-    (a b : Bool) (r : ℕ) (s : Seat) (out : List ℕ) (c : Came Seat) → r ≡ pick a shortOutput (pick b shortRoom 0) → (r ≡ 0 → ⊥) →
-    came r 0 s out ≡ pick a (came shortOutput 0 s out) (pick b (came shortRoom 0 s out) c)
-unfolding pick
+    (a b : Bool) (r : ℕ) (s : Seat) (out : List ℕ) (c : Came Seat) → r ≡ when a shortOutput (when b shortRoom 0) → (r ≡ 0 → ⊥) →
+    came r 0 s out ≡ when a (came shortOutput 0 s out) (when b (came shortRoom 0 s out) c)
+unfolding when
 lent-cases true b r s out c e f = ap (λ (k : ℕ). came k 0 s out) e
 lent-cases false true r s out c e f = ap (λ (k : ℕ). came k 0 s out) e
 lent-cases false false r s out c e f = absurd (f e)
@@ -55,8 +55,8 @@ pub offer-parts :
 unfolding offered
 offer-parts P s bytes out c k l ek el h f e =
     ap₂ (λ i j. across (longer (drop i (s .elements)) (drop j (s .nodes))) c) (sym ek) (sym el)
-    ∙ pick-no _ (beside s c) _ _ (le-ltb _ _ h)
-    (pick-no _ (beside s c) _ _ f
+    ∙ when-no _ (beside s c) _ _ (le-ltb _ _ h)
+    (when-no _ (beside s c) _ _ f
     (ap (beside s) (e ∙ ap₂ (λ i j. stepAt P (seat (s .numbers) (take i (s .elements)) (take j (s .nodes))) bytes out) (sym ek) (sym el))))
 
 -- on longer room
@@ -65,8 +65,8 @@ pub offered-long :
     outputNeeded ≤ length out → offered P (longer A B s) bytes out ≡ across (longer A B) (stepAt P s bytes out)
 unfolding offered
 offered-long P s A B bytes out longE longN h =
-    pick-false _ _ _ (le-ltb _ _ h)
-    ∙ pick-false _ _ _
+    when-false _ _ _ (le-ltb _ _ h)
+    ∙ when-false _ _ _
     (not-small _ _ (omega (arith, length-append (s .elements) A, longE)) (omega (arith, length-append (s .nodes) B, longN)))
     ∙ ap₂ (λ (X Y : List ℕ). beside (longer A B s) (stepAt P (seat (s .numbers) X Y) bytes out))
     (take-at (s .elements) A elementsNeeded longE) (take-at (s .nodes) B nodesNeeded longN)
@@ -93,7 +93,7 @@ module _ (P : Plan) (s : Seat) (bytes out : List ℕ) where
   pub offered-refused : (offered P s bytes out .refusal ≡ 0 → ⊥) → offered P s bytes out ≡ came (offered P s bytes out .refusal) 0 s out
   unfolding offered Kept
   offered-refused =
-      pick-either Kept _ _ _ (kept-lent shortOutput) (pick-either Kept _ _ _ (kept-lent shortRoom) kept-step)
+      when-either Kept _ _ _ (kept-lent shortOutput) (when-either Kept _ _ _ (kept-lent shortRoom) kept-step)
 
   pub offer-one :
       (r r′ : Stepped) (t t′ : Seat) (o o′ : List ℕ) → OfferGives P s bytes out r t o → OfferGives P s bytes out r′ t′ o′ →

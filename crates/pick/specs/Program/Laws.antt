@@ -17,7 +17,7 @@ use mathlib.Core.Option.{Option}
 use lib.Dec.{eqb, ltb}
 use lib.ListN.{length, take, length-append}
 use borrow.Author.Tests.{lt-ltb, ltb-true, ltb-false}
-use Rattle.choice.specs.Pick.{pick, pick-false}
+use Rattle.choice.specs.When.{when, when-false}
 use Rattle.meaning.specs.Limits.{elementsNeeded, nodesNeeded}
 use Rattle.meaning.specs.Refusals.{shortRoom, unfinished, badLength, badStep}
 use Rattle.meaning.specs.Answer.{tooSmall}
@@ -51,8 +51,8 @@ use Rattle.pick.specs.Program.{finishLineOf, lastLineBy, owedOutputBy, o
 -- the last line
 
 finish-by :
-    (x : Bool) (k h n : ℕ) → finishLine (pick x (Ended k h) (Refused unfinished)) n ≡ pick x (endLine h) (refusedAtLine unfinished n)
-unfolding pick
+    (x : Bool) (k h n : ℕ) → finishLine (when x (Ended k h) (Refused unfinished)) n ≡ when x (endLine h) (refusedAtLine unfinished n)
+unfolding when
 finish-by true k h n = refl
 finish-by false k h n = refl
 
@@ -60,7 +60,7 @@ finish-owed : {b : List ℕ} {es : List Event} {l : Housed} → Of b es l → fi
 unfolding finish finishLineOf
 finish-owed {b} {es} {l} o =
     finish-by (l .session .ended) (l .session .opened) (l .session .handed) (length es)
-    ∙ ap₂ (λ (x : Bool) (h : ℕ). pick x (endLine h) (refusedAtLine unfinished (length es))) (ended-is o) (handed-is o)
+    ∙ ap₂ (λ (x : Bool) (h : ℕ). when x (endLine h) (refusedAtLine unfinished (length es))) (ended-is o) (handed-is o)
 
 pub last-line-owed :
     {b : List ℕ} {es : List Event} {l : Housed} → Of b es l → (f : Finish) → f ≡ finish (l .session) → (taken r : ℕ) → taken ≡ length es →
@@ -125,7 +125,7 @@ pub begin-checked :
     (query E N : List ℕ) (r : Begun) → elementsNeeded ≤ length E → nodesNeeded ≤ length N → BeginGives query E N r → said (r .answer) ≡ answerTo query
 unfolding startAnswer
 begin-checked query E N r longE longN g =
-    begin-answer query E N r g ∙ pick-false (tooSmall (length E) (length N)) _ _ (not-small (length E) (length N) longE longN)
+    begin-answer query E N r g ∙ when-false (tooSmall (length E) (length N)) _ _ (not-small (length E) (length N) longE longN)
 
 module _ (query : List ℕ) (a : Start) (checked : said a ≡ answerTo query) where
   -- a refused query: its line is all that is owed

@@ -17,7 +17,7 @@ use lib.Dec.{eqb, ltb}
 use lib.ListN.{length, take, drop, length-append, length-drop}
 use lib.Seq.{drop-drop}
 use borrow.Author.Tests.{eqb-false, ne-eqb, ltb-true, ltb-false, le-ltb}
-use Rattle.choice.specs.Pick.{pick, pick-true, pick-false, pick-known, pick-either}
+use Rattle.choice.specs.When.{when, when-true, when-false, when-known, when-either}
 use Rattle.choice.specs.Count.{positive}
 use Rattle.meaning.specs.Limits.{outputNeeded}
 use Rattle.meaning.specs.Refusals.{shortRoom}
@@ -87,7 +87,7 @@ used-back s A B = record { elements = refl; nodes = refl }
 -- room that was enough is what is left
 pub left-is : (l : Housed) (E N : List ℕ) (t : Session) (A B : List ℕ) → tooSmall (length E) (length N) ≡ false → leftBy l E N t A B ≡ housed t A B
 unfolding leftBy
-left-is l E N t A B enough = pick-false (tooSmall (length E) (length N)) _ (housed t A B) enough
+left-is l E N t A B enough = when-false (tooSmall (length E) (length N)) _ (housed t A B) enough
 
 -- a refusal has a number
 Numbered : Done → Type 0
@@ -96,7 +96,7 @@ Numbered d = (x : ℕ) → d .answer ≡ Refused x → 0 < x
 pub refused-some : (s : Session) (bytes E N out : List ℕ) (x : ℕ) → event s bytes E N out .answer ≡ Refused x → 0 < x
 unfolding event settled Numbered
 refused-some s bytes E N out =
-    pick-known Numbered (eqb (came .refusal) 0) _ _ (λ t x e. let z : _≡_ {A = ℕ} 0 1 = cc in absurd (omega arith))
+    when-known Numbered (eqb (came .refusal) 0) _ _ (λ t x e. let z : _≡_ {A = ℕ} 0 1 = cc in absurd (omega arith))
     (λ f x e. let z : x ≡ came .refusal = cc in subst (λ k. 0 < k) (sym z) (positive (came .refusal) (eqb-false (came .refusal) 0 f)))
   where
     came : Came Seat
@@ -114,8 +114,8 @@ taken-enough s bytes E N out k wide e = by (tooSmall (length E) (length N)) refl
         let short : event s bytes E N out .answer ≡ Refused shortRoom =
         ap (λ (d : Done). d .answer)
         (event-cases s bytes E N out
-        ∙ pick-false (ltb (length out) outputNeeded) _ _ (le-ltb (length out) outputNeeded wide)
-        ∙ pick-true (tooSmall (length E) (length N)) _ _ t) in
+        ∙ when-false (ltb (length out) outputNeeded) _ _ (le-ltb (length out) outputNeeded wide)
+        ∙ when-true (tooSmall (length E) (length N)) _ _ t) in
         let z : _≡_ {A = ℕ} 0 1 = cc in absurd (omega arith)
 
 module _ {b : List ℕ} {fs : List Event} {l : Housed} (o : Of b fs l) (n : ℕ) (es E N out : List ℕ)
@@ -135,7 +135,7 @@ module _ {b : List ℕ} {fs : List Event} {l : Housed} (o : Of b fs l) (n : ℕ)
         offers = offer (take 8 es) E N out ∷ [];
         replies = stepped r A B out′ ∷ [];
         left = leftBy l E N t A B;
-        same-session = pick-either (λ (k : Housed). k .session ≡ t) (tooSmall (length E) (length N)) _ _ refl refl;
+        same-session = when-either (λ (k : Housed). k .session ≡ t) (tooSmall (length E) (length N)) _ _ refl refl;
         played = by-event {r = r} used g unused;
         goes-on =
             λ f. subst (λ (k : Housed). SameUsed k A B) (sym (left-is l E N t A B f)) (used-back t A B);
@@ -224,7 +224,7 @@ module _ (n : ℕ) {b : List ℕ}
     {fs : List Event} {l : Housed} (o : Of b fs l) (es E N out : List ℕ) (used : tooSmall (length E) (length N) ≡ false → SameUsed l E N)
     (whole : 8 * suc n ≤ length es) (wide : outputNeeded ≤ length out) where
   abbrev followed : Came Housed → Fed Housed
-  followed c = pick (eqb (c .refusal) 0) (andThen (one c) (fed eventAt n (c .seat) (drop 8 es) (drop (4 * c .listed) (c .out)))) (one c)
+  followed c = when (eqb (c .refusal) 0) (andThen (one c) (fed eventAt n (c .seat) (drop 8 es) (drop (4 * c .listed) (c .out)))) (one c)
 
   one-singly :
       (a : Answer) (t : Session) (A B out′ : List ℕ) →
@@ -234,13 +234,13 @@ module _ (n : ℕ) {b : List ℕ}
   one-singly (Refused x) t A B out′ e =
       let some : 0 < x = refused-some (l .session) (take 8 es) E N out x (sym (ap (λ (d : Done). d .answer) e)) in
       subst (Singly l (suc n) es E N out)
-      (sym (pick-false (eqb x 0) _ _ (ne-eqb x 0 (λ z. omega arith))))
+      (sym (when-false (eqb x 0) _ _ (ne-eqb x 0 (λ z. omega arith))))
       (refused-singly o n es E N out used (omega arith) wide t A B out′ x some (ap (λ (d : Done). toldOf d) e))
   one-singly (Taken k) t A B out′ e =
       let g : EventGives (l .session) (take 8 es) E N out (record { answer = Taken k; session = t }) A B out′ = ap (λ (d : Done). toldOf d) e in
       let enough : tooSmall (length E) (length N) ≡ false =
       taken-enough (l .session) (take 8 es) E N out k wide (sym (ap (λ (d : Done). d .answer) e)) in
-      subst (Singly l (suc n) es E N out) (sym (pick-true true _ _ refl))
+      subst (Singly l (suc n) es E N out) (sym (when-true true _ _ refl))
       (taken-singly o n es E N out used (omega arith) wide t A B out′ k g enough (fed eventAt n (housed t A B) (drop 8 es) (drop (4 * k) out′))
       (rest _ (housed t A B)
       (subst (Of b _) (left-is l E N t A B enough)
@@ -253,7 +253,7 @@ fed-singly :
 unfolding fed eventAt
 fed-singly zero {l = l} o es E N out used h = none-singly l zero es E N out used (inl refl)
 fed-singly (suc n) {b} {fs} {l} o es E N out used h =
-    pick-known (Singly l (suc n) es E N out) (ltb (length out) outputNeeded) _ _
+    when-known (Singly l (suc n) es E N out) (ltb (length out) outputNeeded) _ _
     (λ t. none-singly l (suc n) es E N out used (inr (omega (arith, ltb-true (length out) outputNeeded t))))
     (λ t.
     one-singly n (λ us m p es′ A B out′ u k. fed-singly n {fs = us} {l = m} p es′ A B out′ u k) o es E N out used h

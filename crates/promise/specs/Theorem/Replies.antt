@@ -19,7 +19,7 @@ use mathlib.Core.List.{List, [], _∷_, _++_, map, flatMap, List·Memᴰ}
 use lib.Dec.{eqb}
 use lib.ListN.{length, take, drop, length-append, length-drop}
 use lib.Seq.{take-at, drop-at, length-take-le}
-use Rattle.choice.specs.Pick.{pick-true, pick-false, pick-known, pick-either}
+use Rattle.choice.specs.When.{when-true, when-false, when-known, when-either}
 use Rattle.choice.specs.Count.{boolByte-le}
 use Rattle.meaning.specs.Limits.{elementsNeeded, nodesNeeded, outputNeeded}
 use Rattle.meaning.specs.Refusals.{shortOutput, shortRoom}
@@ -210,21 +210,21 @@ module _ (s : Session) (bytes E N out : List ℕ) where
 
   back : Back (event s bytes E N out)
   unfolding event settled Back
-  back = pick-either Back _ _ _ (λ n e. let z : _≡_ {A = ℕ} 0 1 = cc in absurd (omega arith)) (λ n e. (refl, (refl, (refl, refl))))
+  back = when-either Back _ _ _ (λ n e. let z : _≡_ {A = ℕ} 0 1 = cc in absurd (omega arith)) (λ n e. (refl, (refl, (refl, refl))))
 
   rooms : Rooms (event s bytes E N out)
   unfolding settled Rooms
   rooms =
       subst Rooms (sym (event-cases s bytes E N out))
-      (pick-either Rooms _ _ _ ((refl, refl), (refl, refl))
-      (pick-known Rooms (tooSmall (length E) (length N)) _ _ (λ t. ((refl, refl), (refl, refl)))
+      (when-either Rooms _ _ _ ((refl, refl), (refl, refl))
+      (when-known Rooms (tooSmall (length E) (length N)) _ _ (λ t. ((refl, refl), (refl, refl)))
       (λ f.
       let enough = room-long E N f in
       let longE : length (take elementsNeeded E) ≡ elementsNeeded = length-take-le elementsNeeded E (enough .0) in
       let longN : length (take nodesNeeded N) ≡ nodesNeeded = length-take-le nodesNeeded N (enough .1) in
       let whole : Whole (came .seat) =
       whole-step (keptIn (s .kept)) (needed at) bytes out (record { elements = longE; nodes = longN; said = boolByte-le (s .ended) }) in
-      pick-either Rooms (eqb (came .refusal) 0) _ _ (
+      when-either Rooms (eqb (came .refusal) 0) _ _ (
         room-beside elementsNeeded (came .seat .elements) E (whole .elements) (enough .0),
         room-beside nodesNeeded (came .seat .nodes) N (whole .nodes) (enough .1),
       ) ((refl, refl), (refl, refl)))))
@@ -271,9 +271,9 @@ pub begins : (b E N : List ℕ) (r : given.Begun) → BeginGives b E N r → Beg
 unfolding startAnswer
 begins b E N r g =
     record {
-      small = λ t. begin-answer b E N r g ∙ pick-true (tooSmall (length E) (length N)) (checked.refused shortRoom) (checked.answerTo b) t;
+      small = λ t. begin-answer b E N r g ∙ when-true (tooSmall (length E) (length N)) (checked.refused shortRoom) (checked.answerTo b) t;
       answered =
-          λ f. subst (Owed b) (sym (begin-answer b E N r g ∙ pick-false (tooSmall (length E) (length N)) _ (checked.answerTo b) f)) (owed-given b);
+          λ f. subst (Owed b) (sym (begin-answer b E N r g ∙ when-false (tooSmall (length E) (length N)) _ (checked.answerTo b) f)) (owed-given b);
       blank = λ f b′ E′ N′ r′ g′ f′. blank-session b E N r g f ∙ sym (blank-session b′ E′ N′ r′ g′ f′);
     }
 
@@ -289,7 +289,7 @@ owed-said b (checked.refusedAt n k) o = (started.BadStep k, ap (λ (m : ℕ). ch
 answer-said : (b E N : List ℕ) → (x : start.Start) × (said x ≡ startAnswer b E N)
 unfolding startAnswer
 answer-said b E N =
-    pick-either (λ (a : checked.Answer). (x : start.Start) × (said x ≡ a)) (tooSmall (length E) (length N)) _ _ (started.ShortRoom, unfold said in refl)
+    when-either (λ (a : checked.Answer). (x : start.Start) × (said x ≡ a)) (tooSmall (length E) (length N)) _ _ (started.ShortRoom, unfold said in refl)
     (owed-said b (checked.answerTo b) (owed-given b))
 
 pub begin-some : (b E N : List ℕ) → (r : given.Begun) × BeginGives b E N r

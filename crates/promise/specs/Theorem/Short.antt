@@ -15,7 +15,7 @@ use mathlib.Core.List.{List}
 use lib.Dec.{eqb, ltb}
 use lib.ListN.{length}
 use borrow.Author.Tests.{lt-ltb, le-ltb, ltb-true, ltb-false}
-use Rattle.choice.specs.Pick.{pick-true, pick-false, pick-either}
+use Rattle.choice.specs.When.{when-true, when-false, when-either}
 use Rattle.meaning.specs.Limits.{outputNeeded}
 use Rattle.meaning.specs.Refusals.{shortOutput, shortRoom, badRecord, afterEnd, wrongClose, tooDeep, tooManyNodes, tooManyHeld}
 use Rattle.meaning.specs.Record.{eventOf}
@@ -50,20 +50,20 @@ apart k h f = (f, λ e. omega arith)
 own-open : (n : Numbers) → Apart (refuseOpen n)
 unfolding refuseOpen
 own-open n =
-    pick-either Apart _ _ _ (apart afterEnd (omega arith) (λ e. omega arith))
-    (pick-either Apart _ _ _ (apart tooDeep (omega arith) (λ e. omega arith))
-    (pick-either Apart _ _ _ (apart tooManyNodes (omega arith) (λ e. omega arith))
-    (pick-either Apart _ _ _ (apart tooManyHeld (omega arith) (λ e. omega arith)) (apart 0 (omega arith) (λ e. omega arith)))))
+    when-either Apart _ _ _ (apart afterEnd (omega arith) (λ e. omega arith))
+    (when-either Apart _ _ _ (apart tooDeep (omega arith) (λ e. omega arith))
+    (when-either Apart _ _ _ (apart tooManyNodes (omega arith) (λ e. omega arith))
+    (when-either Apart _ _ _ (apart tooManyHeld (omega arith) (λ e. omega arith)) (apart 0 (omega arith) (λ e. omega arith)))))
 
 own-close : (n : Numbers) (E : Elements) (x : ℕ) → Apart (refuseClose n E x)
 unfolding refuseClose
 own-close n E x =
     let wrong : Apart wrongClose = apart wrongClose (omega arith) (λ e. omega arith) in
-    pick-either Apart _ _ _ (apart afterEnd (omega arith) (λ e. omega arith))
-    (pick-either Apart _ _ _ wrong
-    (pick-either Apart _ _ _ wrong
-    (pick-either Apart _ _ _
-    (pick-either Apart _ _ _ (apart tooManyHeld (omega arith) (λ e. omega arith)) (apart 0 (omega arith) (λ e. omega arith))) wrong)))
+    when-either Apart _ _ _ (apart afterEnd (omega arith) (λ e. omega arith))
+    (when-either Apart _ _ _ wrong
+    (when-either Apart _ _ _ wrong
+    (when-either Apart _ _ _
+    (when-either Apart _ _ _ (apart tooManyHeld (omega arith) (λ e. omega arith)) (apart 0 (omega arith) (λ e. omega arith))) wrong)))
 
 module _ (P : Plan) (n : Numbers) (E : Elements) (N : Queue) (out : List ℕ) where
   Own : After → Type 0
@@ -84,12 +84,12 @@ module _ (P : Plan) (n : Numbers) (E : Elements) (N : Queue) (out : List ℕ) wh
   own-after : (e : Event) → Own (step P e n E N out)
   unfolding step onOpen onClose
   own-after (Open x) =
-      pick-either Own (eqb (refuseOpen n) 0) _ _
-      (pick-either Own (overIn P x (n .depth) (n .held) E N) _ _
+      when-either Own (eqb (refuseOpen n) 0) _ _
+      (when-either Own (overIn P x (n .depth) (n .held) E N) _ _
       (own-refused tooManyHeld (apart tooManyHeld (omega arith) (λ e. omega arith))) (taken-open x))
       (own-refused (refuseOpen n) (own-open n))
   own-after (Close x) =
-      pick-either Own (eqb (refuseClose n E x) 0) _ _ taken-close (own-refused (refuseClose n E x) (own-close n E x))
+      when-either Own (eqb (refuseClose n E x) 0) _ _ taken-close (own-refused (refuseClose n E x) (own-close n E x))
   own-after Bad = own-refused badRecord (apart badRecord (omega arith) (λ e. omega arith))
 
   own-step : (e : Event) → Apart (step P e n E N out .refusal)
@@ -99,7 +99,7 @@ module _ (P : Plan) (n : Numbers) (E : Elements) (N : Queue) (out : List ℕ) wh
 own-came : (P : Plan) (s : Seat) (bytes out : List ℕ) → Apart (stepAt P s bytes out .refusal)
 unfolding stepAt cameTo
 own-came P s bytes out =
-    pick-either (λ (c : Came Seat). Apart (c .refusal)) _ _ _ (apart 0 (omega arith) (λ e. omega arith))
+    when-either (λ (c : Came Seat). Apart (c .refusal)) _ _ _ (apart 0 (omega arith) (λ e. omega arith))
     (own-step P (s .numbers) (elementsIn (s .elements)) (queueIn (s .nodes)) out (shown (eventOf bytes)))
 
 module _ (s : Session) (bytes E N out : List ℕ) where
@@ -116,18 +116,18 @@ module _ (s : Session) (bytes E N out : List ℕ) where
   own-settled : OwnAnswer (settled s E N out (beside at came))
   unfolding settled OwnAnswer
   own-settled =
-      pick-either OwnAnswer (eqb (came .refusal) 0) _ _ (λ x e. let z : _≡_ {A = ℕ} 0 1 = cc in absurd (omega arith))
+      when-either OwnAnswer (eqb (came .refusal) 0) _ _ (λ x e. let z : _≡_ {A = ℕ} 0 1 = cc in absurd (omega arith))
       (λ x e. let z : x ≡ came .refusal = cc in subst Apart (sym z) (own-came (keptIn (s .kept)) (needed at) bytes out))
 
   -- by the tests of what is lent
   answer-short : ltb (length out) outputNeeded ≡ true → event s bytes E N out .answer ≡ Refused shortOutput
-  answer-short t = ap (λ (d : Done). d .answer) (event-cases s bytes E N out ∙ pick-true (ltb (length out) outputNeeded) _ _ t)
+  answer-short t = ap (λ (d : Done). d .answer) (event-cases s bytes E N out ∙ when-true (ltb (length out) outputNeeded) _ _ t)
 
   answer-small :
       ltb (length out) outputNeeded ≡ false → tooSmall (length E) (length N) ≡ true → event s bytes E N out .answer ≡ Refused shortRoom
   answer-small f t =
       ap (λ (d : Done). d .answer)
-      (event-cases s bytes E N out ∙ pick-false (ltb (length out) outputNeeded) _ _ f ∙ pick-true (tooSmall (length E) (length N)) _ _ t)
+      (event-cases s bytes E N out ∙ when-false (ltb (length out) outputNeeded) _ _ f ∙ when-true (tooSmall (length E) (length N)) _ _ t)
 
   answer-own :
       ltb (length out) outputNeeded ≡ false → tooSmall (length E) (length N) ≡ false → (x : ℕ) → event s bytes E N out .answer ≡ Refused x → Apart x
@@ -136,7 +136,7 @@ module _ (s : Session) (bytes E N out : List ℕ) where
       own-settled x
       (sym
       (ap (λ (d : Done). d .answer)
-      (event-cases s bytes E N out ∙ pick-false (ltb (length out) outputNeeded) _ _ f ∙ pick-false (tooSmall (length E) (length N)) _ _ g)) ∙ e)
+      (event-cases s bytes E N out ∙ when-false (ltb (length out) outputNeeded) _ _ f ∙ when-false (tooSmall (length E) (length N)) _ _ g)) ∙ e)
 
   pub event-short : (event s bytes E N out .answer ≡ Refused shortOutput) ↔ (length out < outputNeeded)
   event-short = (λ e. to (ltb (length out) outputNeeded) (tooSmall (length E) (length N)) refl refl e, λ h. answer-short (lt-ltb _ _ h))

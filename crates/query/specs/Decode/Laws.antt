@@ -118,7 +118,7 @@ kept-hangs q s e = first _ _ (second (roleRule (roleByte (stepOf q s))) _ (secon
 
 shaped-keeps : (q : List ℕ) (shaped : Shaped q) (s : ℕ) → s < steps q → hangRule q s ≡ true → keeps q s ≡ true
 unfolding keeps
-shaped-keeps q shaped s there hangs = both _ _ (shaped .axis s there) (both _ _ (shaped .role s there) (both _ _ hangs (shaped .zeros s there)))
+shaped-keeps q shaped s there hangs = both _ _ (shaped .axis s there) (both _ _ (shaped .role s there) (both _ _ hangs (shaped .zero s there)))
 
 kept-admits : (q : List ℕ) → Bytes q → Kept q → T (admits (decode q))
 kept-admits q bytes kept =

@@ -11,7 +11,7 @@ use mathlib.Core.Path.{_≡_, refl, sym, ap, ap₂, _∙_}
 use mathlib.Core.Bool.{true, false}
 use mathlib.Core.List.{List, []}
 use lib.ListN.{length}
-use Rattle.choice.specs.Pick.{pick-true, pick-false}
+use Rattle.choice.specs.When.{when-true, when-false}
 use Rattle.meaning.specs.Answer.{tooSmall}
 use Rattle.plan.specs.declared.Plan.{Plan}
 use Rattle.plan.specs.Planned.{planOf}
@@ -36,12 +36,12 @@ module _ (q E N : List ℕ) (a : start.Start) (s : Session) where
       BeginGives q E N (record { answer = a; session = s })
   unfolding said startAnswer sessionFor
   begin-short plan ea h ep es =
-      beside (ap said ea ∙ sym (pick-true _ _ _ h)) (es ∙ ap fresh ep ∙ ap (λ x. sessionFor (said x) q) (sym ea))
+      beside (ap said ea ∙ sym (when-true _ _ _ h)) (es ∙ ap fresh ep ∙ ap (λ x. sessionFor (said x) q) (sym ea))
 
   module _ (enough : tooSmall (length E) (length N) ≡ false) (plan : Plan) (es : s ≡ fresh plan) (c : QueryAnswer) (checked : query.said c ≡ answerTo q) where
     asked : query.said c ≡ startAnswer q E N
     unfolding startAnswer
-    asked = checked ∙ sym (pick-false _ _ _ enough)
+    asked = checked ∙ sym (when-false _ _ _ enough)
 
     pub begin-admitted : c ≡ Admitted → a ≡ started.Begun → plan ≡ planOf q → BeginGives q E N (record { answer = a; session = s })
     unfolding said query.said sessionFor

@@ -17,7 +17,7 @@ use mir.Val.{boolByte}
 use lib.Dec.{eqb, ltb}
 use lib.ListN.{length}
 use borrow.Author.Tests.{eq-eqb, ne-eqb}
-use Rattle.choice.specs.Pick.{pick, pick-false, pick-yes, pick-no, pick-ap}
+use Rattle.choice.specs.When.{when, when-false, when-yes, when-no, when-ap}
 use Rattle.meaning.specs.Refusals.{shortOutput, shortRoom}
 use Rattle.meaning.specs.Answer.{tooSmall}
 use Rattle.meaning.specs.Limits.{outputNeeded}
@@ -70,7 +70,7 @@ module _ (s : Session) (bytes E N out E′ N′ out′ : List ℕ) (refusal list
       let k = came-is ∙ offered-refused (keptIn (s .kept)) (seat (sessionNumbers s) E N) bytes out (λ z. f (r ∙ z)) in
       same (ap (λ (c : Came Seat). c .seat .elements) k) (ap (λ (c : Came Seat). c .seat .nodes) k) (ap (λ (c : Came Seat). c .out) k)
       ∙ ap (λ (d : Done). toldOf d)
-      (pick-no _ (refused refusal s E N out) _ _ (ne-eqb refusal 0 f) refl ∙ ap (settled s E N out) came-is)
+      (when-no _ (refused refusal s E N out) _ _ (ne-eqb refusal 0 f) refl ∙ ap (settled s E N out) came-is)
     where
       same : {A A′ B B′ C C′ : List ℕ} → A ≡ A′ → B ≡ B′ → C ≡ C′ → toldAs (Refused refusal) s A B C ≡ toldAs (Refused refusal) s A′ B′ C′
       same p q r = λ i. toldAs (Refused refusal) s (p i) (q i) (r i)
@@ -80,27 +80,27 @@ module _ (s : Session) (bytes E N out E′ N′ out′ : List ℕ) (refusal list
   unfolding event settled
   event-taken t z et =
       ap (λ (u : Session). toldAs (Taken listed) u E′ N′ out′) et
-      ∙ ap (λ (d : Done). toldOf d) (pick-yes _ _ _ _ (eq-eqb refusal 0 z) refl ∙ ap (settled s E N out) came-is)
+      ∙ ap (λ (d : Done). toldOf d) (when-yes _ _ _ _ (eq-eqb refusal 0 z) refl ∙ ap (settled s E N out) came-is)
 
 -- by the tests of what is lent
 module _ (s : Session) (bytes E N out : List ℕ) where
   lent-settled : (r : ℕ) (t : Seat) → (r ≡ 0 → ⊥) → settled s E N out (came r 0 t out) ≡ refused r s E N out
   unfolding settled
-  lent-settled r t f = pick-false _ _ _ (ne-eqb r 0 f)
+  lent-settled r t f = when-false _ _ _ (ne-eqb r 0 f)
 
   pub event-cases :
       event s bytes E N out
-      ≡ pick (ltb (length out) outputNeeded) (refused shortOutput s E N out)
-      (pick (tooSmall (length E) (length N)) (refused shortRoom s E N out)
+      ≡ when (ltb (length out) outputNeeded) (refused shortOutput s E N out)
+      (when (tooSmall (length E) (length N)) (refused shortRoom s E N out)
       (settled s E N out
       (beside (seat (sessionNumbers s) E N) (stepAt (keptIn (s .kept)) (needed (seat (sessionNumbers s) E N)) bytes out))))
   unfolding event offered
   event-cases =
       let at : Seat = seat (sessionNumbers s) E N in
-      pick-ap (settled s E N out) _ _ _
-      ∙ ap₂ (pick (ltb (length out) outputNeeded)) (lent-settled shortOutput at (λ z. omega arith))
-      (pick-ap (settled s E N out) _ _ _
-      ∙ ap (λ (d : Done). pick (tooSmall (length E) (length N)) d
+      when-ap (settled s E N out) _ _ _
+      ∙ ap₂ (when (ltb (length out) outputNeeded)) (lent-settled shortOutput at (λ z. omega arith))
+      (when-ap (settled s E N out) _ _ _
+      ∙ ap (λ (d : Done). when (tooSmall (length E) (length N)) d
       (settled s E N out (beside at (stepAt (keptIn (s .kept)) (needed at) bytes out)))) (lent-settled shortRoom at (λ z. omega arith)))
 
 -- what stands for the same is the same: the case of the enum, by what it tells

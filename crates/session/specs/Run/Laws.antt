@@ -17,7 +17,7 @@ use lib.Dec.{eqb}
 use lib.ListN.{length, take, drop, take-append-drop}
 use lib.Seq.{length-take-le}
 use borrow.Author.Tests.{eqb-true, eqb-false, ne-eqb, lt-ltb, le-ltb}
-use Rattle.choice.specs.Pick.{pick, pick-true, pick-false, pick-yes, pick-no, pick-known}
+use Rattle.choice.specs.When.{when, when-true, when-false, when-yes, when-no, when-known}
 use Rattle.choice.specs.Count.{boolByte-le, boolByte-read}
 use Rattle.meaning.specs.Refusals.{shortRoom}
 use Rattle.meaning.specs.Answer.{tooSmall}
@@ -65,7 +65,7 @@ module _ (s : Session) (A B : List ℕ) (t : Seat) (bytes out : List ℕ) (w : W
       cameAs (event-at (across (longer A B) c)) ≡ across (seen s A B) c
   unfolding settled refusalOf listedOf
   settled-is c kept =
-      pick-known (λ (d : Done). cameAs d ≡ across (seen s A B) c) (eqb (c .refusal) 0) _ _
+      when-known (λ (d : Done). cameAs d ≡ across (seen s A B) c) (eqb (c .refusal) 0) _ _
       (λ e. ap (λ (r : ℕ). record { refusal = r; listed = c .listed; seat = seen s A B (c .seat); out = c .out }) (sym (eqb-true _ _ e)))
       (λ e. sym (ap (λ (y : Came Seat). across (seen s A B) y) (kept (eqb-false _ _ e))))
 
@@ -114,7 +114,7 @@ module _ (s : Session) (es E N out : List ℕ) where
   short : (n : ℕ) → length out < outputNeeded → ran (stayed s 0) E N out ≡ fed eventAt n (housed s E N) es out
   unfolding fed
   short zero h = refl
-  short (suc n) h = pick-yes _ _ _ _ (lt-ltb _ _ h) refl
+  short (suc n) h = when-yes _ _ _ _ (lt-ltb _ _ h) refl
 
   pub run-short : (r : Ran) → r ≡ stayed s 0 → length out < outputNeeded → Gives r
   run-short r e h = still 0 r e (short (length es / 8) h)
@@ -124,7 +124,7 @@ module _ (s : Session) (es E N out : List ℕ) where
       (bytes : List ℕ) → outputNeeded ≤ length out → tooSmall (length E) (length N) ≡ true →
       eventAt (housed s E N) bytes out ≡ record { refusal = shortRoom; listed = 0; seat = housed s E N; out = out }
   unfolding eventAt refusalOf listedOf
-  small-event bytes h k = ap (λ (d : Done). cameAs d) (event-cases s bytes E N out ∙ pick-false _ _ _ (le-ltb _ _ h) ∙ pick-true _ _ _ k)
+  small-event bytes h k = ap (λ (d : Done). cameAs d) (event-cases s bytes E N out ∙ when-false _ _ _ (le-ltb _ _ h) ∙ when-true _ _ _ k)
 
   small :
       (n : ℕ) → 0 < n → outputNeeded ≤ length out → tooSmall (length E) (length N) ≡ true →
@@ -132,10 +132,10 @@ module _ (s : Session) (es E N out : List ℕ) where
   unfolding fed
   small zero l h k = absurd (omega arith)
   small (suc n) l h k =
-      pick-no _ _ _ _ (le-ltb _ _ h)
-      (sym (ap (λ (c : Came Housed). pick (eqb (c .refusal) 0)
+      when-no _ _ _ _ (le-ltb _ _ h)
+      (sym (ap (λ (c : Came Housed). when (eqb (c .refusal) 0)
       (andThen (one c) (fed eventAt n (c .seat) (drop 8 es) (drop (4 * c .listed) (c .out)))) (one c)) (small-event (take 8 es) h k)
-      ∙ pick-false _ _ _ (ne-eqb shortRoom 0 (λ z. omega arith))))
+      ∙ when-false _ _ _ (ne-eqb shortRoom 0 (λ z. omega arith))))
 
   pub run-small :
       (refusal : ℕ) (r : Ran) → r ≡ stayed s refusal → refusal ≡ refuseLent (length out) (length E) (length N) → (refusal ≡ 0 → ⊥) → 8 ≤ length es →

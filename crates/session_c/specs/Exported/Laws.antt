@@ -10,7 +10,7 @@ use mathlib.Core.Path.{_≡_, sym, ap, ap₂, _∙_}
 use mathlib.Core.List.{List}
 use lib.ListN.{length}
 use borrow.Author.Tests.{eq-eqb, ne-eqb}
-use Rattle.choice.specs.Pick.{pick-true, pick-false}
+use Rattle.choice.specs.When.{when-true, when-false}
 use Rattle.query_c.specs.Packed.{packed}
 use Rattle.feed.specs.Fed.{fed}
 use Rattle.session.specs.declared.Session.{Session}
@@ -33,7 +33,7 @@ use Rattle.session_c.specs.Exported.{Finished, endNumber, countedBy, fin
 module _ (q E N S : List ℕ) where
   pub begins-none : (length S ≡ sessionRoom → ⊥) → ExportBegins q E N S 255 S
   unfolding began
-  begins-none f = sym (pick-false _ _ _ (ne-eqb _ _ f))
+  begins-none f = sym (when-false _ _ _ (ne-eqb _ _ f))
 
   pub begins-parts :
       (b : given.Begun) (r : ℕ) (S′ : List ℕ) → length S ≡ sessionRoom → BeginGives q E N b → r ≡ packed (said (b .answer)) →
@@ -42,7 +42,7 @@ module _ (q E N S : List ℕ) where
   begins-parts b r S′ long g er eS =
       ap₂ (λ (n : ℕ) (X : List ℕ). record { number = n; session = X }) er eS
       ∙ ap (beganWith S) g
-      ∙ sym (pick-true _ _ _ (eq-eqb _ _ long))
+      ∙ sym (when-true _ _ _ (eq-eqb _ _ long))
 
   pub begins-one :
       (r r′ : ℕ) (A A′ : List ℕ) → ExportBegins q E N S r A → ExportBegins q E N S r′ A′ → (r ≡ r′) × (A ≡ A′)
@@ -54,7 +54,7 @@ module _ (q E N S : List ℕ) where
 module _ (S bytes E N out : List ℕ) where
   pub takes-none : (length S ≡ sessionRoom → ⊥) → ExportTakes S bytes E N out 255 S E N out
   unfolding took
-  takes-none f = sym (pick-false _ _ _ (ne-eqb _ _ f))
+  takes-none f = sym (when-false _ _ _ (ne-eqb _ _ f))
 
   pub takes-one :
       (r r′ : ℕ) (A A′ B B′ C C′ D D′ : List ℕ) → ExportTakes S bytes E N out r A B C D → ExportTakes S bytes E N out r′ A′ B′ C′ D′ →
@@ -69,12 +69,12 @@ module _ (S bytes E N out : List ℕ) where
 module _ (S es E N out C : List ℕ) where
   pub runs-none : (length S ≡ sessionRoom → ⊥) → ExportRuns S es E N out C 255 S E N out C
   unfolding blocked
-  runs-none f = sym (pick-false _ _ _ (ne-eqb _ _ f))
+  runs-none f = sym (when-false _ _ _ (ne-eqb _ _ f))
 
   module _ (long : length S ≡ sessionRoom) where
     pub runs-uncounted : (length C ≡ countsRoom → ⊥) → ExportRuns S es E N out C 255 S E N out C
     unfolding blocked
-    runs-uncounted f = sym (pick-true _ _ _ (eq-eqb _ _ long) ∙ pick-false _ _ _ (ne-eqb _ _ f))
+    runs-uncounted f = sym (when-true _ _ _ (eq-eqb _ _ long) ∙ when-false _ _ _ (ne-eqb _ _ f))
 
     pub runs-parts :
         (s : Session) (d : Ran) (S′ E′ N′ out′ C′ : List ℕ) → length C ≡ countsRoom → s ≡ sessionIn S →
@@ -84,7 +84,7 @@ module _ (S es E N out C : List ℕ) where
     runs-parts s d S′ E′ N′ out′ C′ wide e g eS eC =
         ap₂ (λ (X Y : List ℕ). record { number = d .refusal; session = X; elements = E′; nodes = N′; out = out′; counts = Y }) eS eC
         ∙ ap (blockedWith S) (g ∙ ap (λ (x : Session). fed eventAt (length es / 8) (housed x E N) es out) e)
-        ∙ sym (pick-true _ _ _ (eq-eqb _ _ long) ∙ pick-true _ _ _ (eq-eqb _ _ wide))
+        ∙ sym (when-true _ _ _ (eq-eqb _ _ long) ∙ when-true _ _ _ (eq-eqb _ _ wide))
 
   pub runs-one :
       (r r′ : ℕ) (A A′ B B′ D D′ F F′ G G′ : List ℕ) → ExportRuns S es E N out C r A B D F G → ExportRuns S es E N out C r′ A′ B′ D′ F′ G′ →
@@ -105,12 +105,12 @@ module _ (S es E N out C : List ℕ) where
 module _ (S C : List ℕ) where
   pub finishes-none : (length S ≡ sessionRoom → ⊥) → ExportFinishes S C 255 C
   unfolding finished
-  finishes-none f = sym (pick-false _ _ _ (ne-eqb _ _ f))
+  finishes-none f = sym (when-false _ _ _ (ne-eqb _ _ f))
 
   module _ (long : length S ≡ sessionRoom) where
     pub finishes-uncounted : (length C ≡ countsRoom → ⊥) → ExportFinishes S C 255 C
     unfolding finished
-    finishes-uncounted f = sym (pick-true _ _ _ (eq-eqb _ _ long) ∙ pick-false _ _ _ (ne-eqb _ _ f))
+    finishes-uncounted f = sym (when-true _ _ _ (eq-eqb _ _ long) ∙ when-false _ _ _ (ne-eqb _ _ f))
 
     pub finishes-parts :
         (s : Session) (f : Finish) (r : ℕ) (C′ : List ℕ) → length C ≡ countsRoom → s ≡ sessionIn S → FinishGives s f → r ≡ endNumber f →
@@ -119,7 +119,7 @@ module _ (S C : List ℕ) where
     finishes-parts s f r C′ wide e g er eC =
         ap₂ (λ (n : ℕ) (X : List ℕ). record { number = n; counts = X }) er eC
         ∙ ap (λ (x : Finish). record { number = endNumber x; counts = countedBy x C }) (finish-is s f g ∙ ap session.finish e)
-        ∙ sym (pick-true _ _ _ (eq-eqb _ _ long) ∙ pick-true _ _ _ (eq-eqb _ _ wide))
+        ∙ sym (when-true _ _ _ (eq-eqb _ _ long) ∙ when-true _ _ _ (eq-eqb _ _ wide))
 
   pub finishes-one :
       (r r′ : ℕ) (A A′ : List ℕ) → ExportFinishes S C r A → ExportFinishes S C r′ A′ → (r ≡ r′) × (A ≡ A′)

@@ -15,7 +15,7 @@ use lib.Dec.{eqb}
 use lib.ListN.{length, take, drop, take-append-drop, length-drop}
 use lib.Seq.{getD-drop}
 use borrow.Author.Tests.{eqb-true, eqb-false, eq-eqb, ne-eqb}
-use Rattle.choice.specs.Pick.{pick, pick-true, pick-yes, pick-no}
+use Rattle.choice.specs.When.{when, when-true, when-yes, when-no}
 use Rattle.choice.specs.Count.{boolByte-le}
 use Rattle.words.specs.Words.{bytesOf, Bytes}
 use Rattle.plan.specs.Plan.{Plan}
@@ -36,7 +36,7 @@ use Rattle.session_c.specs.Laid.Laws.{plan-room, room-is, numbers-laid, 
 use Rattle.session_c.specs.Exported.{Took, numberOf, laidBy, tookWith, took, ExportTakes}
 
 unfoldable pub eventNumber : ℕ → ℕ → ℕ
-eventNumber refusal listed = pick (eqb refusal 0) (256 * listed) refusal
+eventNumber refusal listed = when (eqb refusal 0) (256 * listed) refusal
 
 bit-zero : (b : Bool) → eqb (boolByte (not b)) 0 ≡ b
 bit-zero true = refl
@@ -64,7 +64,7 @@ module _ (S bytes E N out : List ℕ) (long : length S ≡ sessionRoom) (bytes-S
 
   took-is : took S bytes E N out ≡ tookWith S (settled s E N out on-session)
   unfolding took event sessionIn
-  took-is = pick-true _ _ _ (eq-eqb _ _ long)
+  took-is = when-true _ _ _ (eq-eqb _ _ long)
 
   rest-long : length (drop planRoom S) ≡ numbersRoom
   rest-long = omega (arith, length-drop planRoom S, plan-room, numbers.room-is, room-is, long)
@@ -90,7 +90,7 @@ module _ (S bytes E N out : List ℕ) (long : length S ≡ sessionRoom) (bytes-S
         numbers.numbers-same nums (drop planRoom S) long-n rest-long bytes-n rest-bytes (ap (λ (c : Came Seat). c .seat .numbers) e) in
         as-it-was r (ap (λ (x : List ℕ). take planRoom S ++ x) same ∙ take-append-drop planRoom S) (ap (λ (c : Came Seat). c .seat .elements) e)
         (ap (λ (c : Came Seat). c .seat .nodes) e) (ap (λ (c : Came Seat). c .out) e)
-        ∙ ap (tookWith S) (pick-no _ (refused (on-session .refusal) s E N out) _ _ (ne-eqb (on-session .refusal) 0 (λ z. f (r ∙ z))) refl)
+        ∙ ap (tookWith S) (when-no _ (refused (on-session .refusal) s E N out) _ _ (ne-eqb (on-session .refusal) 0 (λ z. f (r ∙ z))) refl)
       where
         as-it-was : {k k′ : ℕ} {A A′ B B′ C C′ D D′ : List ℕ} → k ≡ k′ → A ≡ A′ → B ≡ B′ → C ≡ C′ → D ≡ D′ →
             _≡_ {A = Took} (record { number = k; session = A; elements = B; nodes = C; out = D })
@@ -114,12 +114,12 @@ module _ (S bytes E N out : List ℕ) (long : length S ≡ sessionRoom) (bytes-S
         (offered-said P (seat (sessionNumbers s) E N) bytes out (boolByte-le (s .ended))) in
         ap (λ (x : List ℕ). record { number = 256 * listed; session = x; elements = E′; nodes = N′; out = out′ }) (laid-is said)
         ∙ ap (tookWith S)
-        (pick-yes _ (record { answer = Taken listed; session = withNumbers s (numbersIn nums); elements = E′; nodes = N′; out = out′ }) _ _
+        (when-yes _ (record { answer = Taken listed; session = withNumbers s (numbersIn nums); elements = E′; nodes = N′; out = out′ }) _ _
         (eq-eqb refusal 0 z) refl
         ∙ ap (settled s E N out) (sym e))
 
-    either : (b : Bool) → eqb refusal 0 ≡ b → result (pick b (256 * listed) refusal) ≡ tookWith S (settled s E N out on-session)
-    unfolding pick
+    either : (b : Bool) → eqb refusal 0 ≡ b → result (when b (256 * listed) refusal) ≡ tookWith S (settled s E N out on-session)
+    unfolding when
     either true e = taken-took (eqb-true _ _ e)
     either false e = refused-took (eqb-false _ _ e)
 

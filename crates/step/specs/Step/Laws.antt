@@ -15,7 +15,7 @@ use mir.Val.{boolByte}
 use lib.Dec.{ltb}
 use lib.ListN.{length, take}
 use borrow.Author.Tests.{eq-eqb, ne-eqb}
-use Rattle.choice.specs.Pick.{pick-yes, pick-no}
+use Rattle.choice.specs.When.{when-yes, when-no}
 use Rattle.meaning.specs.Record.{eventOf}
 use Rattle.meaning.specs.Refusals.{tooManyHeld}
 use Rattle.meaning.specs.Limits.{outputNeeded}
@@ -47,13 +47,13 @@ zero-few s r e = let z : s .listed ≡ 0 = ap (λ (t : Stepped). t .listed) e in
 module _ (P : Plan) (x : ℕ) (n : Numbers) (E : Elements) (N : Queue) (out : List ℕ) where
   pub open-refused : (r : ℕ) → r ≡ refuseOpen n → (r ≡ 0 → ⊥) → refusedWith r n E N out ≡ onOpen P x n E N out
   unfolding onOpen
-  open-refused r e f = pick-no _ _ _ _ (ne-eqb _ _ (λ z. f (e ∙ z))) (ap (λ k. refusedWith k n E N out) e)
+  open-refused r e f = when-no _ _ _ _ (ne-eqb _ _ (λ z. f (e ∙ z))) (ap (λ k. refusedWith k n E N out) e)
 
   module _ (r depth held : ℕ) (er : r ≡ refuseOpen n) (z : r ≡ 0) (ed : depth ≡ n .depth) (eh : held ≡ n .held) where
     pub open-full : (b : Bool) → b ≡ overIn P x depth held E N → b ≡ true → refusedWith tooManyHeld n E N out ≡ onOpen P x n E N out
     unfolding onOpen
     open-full b e t =
-        pick-yes _ _ _ _ (eq-eqb _ _ (sym er ∙ z)) (pick-yes _ _ _ _ (sym (ap₂ (λ d h. overIn P x d h E N) ed eh) ∙ sym e ∙ t) refl)
+        when-yes _ _ _ _ (eq-eqb _ _ (sym er ∙ z)) (when-yes _ _ _ _ (sym (ap₂ (λ d h. overIn P x d h E N) ed eh) ∙ sym e ∙ t) refl)
 
     pub open-done :
         (b : Bool) (o : Opened) (j : Joined) (number listed : ℕ) (n′ : Numbers) → b ≡ overIn P x depth held E N → b ≡ false →
@@ -63,8 +63,8 @@ module _ (P : Plan) (x : ℕ) (n : Numbers) (E : Elements) (N : Queue) (out : Li
     unfolding onOpen openTaken
     open-done b o j number listed n′ e f eo en eg ej em =
         let g : ℕ = o .going .went + boolByte (o .going .all) in
-        pick-yes _ _ _ _ (eq-eqb _ _ (sym er ∙ z))
-        (pick-no _ _ _ _ (sym (ap₂ (λ d h. overIn P x d h E N) ed eh) ∙ sym e ∙ f)
+        when-yes _ _ _ _ (eq-eqb _ _ (sym er ∙ z))
+        (when-no _ _ _ _ (sym (ap₂ (λ d h. overIn P x d h E N) ed eh) ∙ sym e ∙ f)
         (ap (λ k. after 0 listed k (o .elements) (j .queue) (j .out)) em
         ∙ ap (λ k. after 0 k (openNumbers n (j .held) k) (o .elements) (j .queue) (j .out)) eg
         ∙ ap (openWith n o)
@@ -73,7 +73,7 @@ module _ (P : Plan) (x : ℕ) (n : Numbers) (E : Elements) (N : Queue) (out : Li
 
   pub close-refused : (r : ℕ) → r ≡ refuseClose n E x → (r ≡ 0 → ⊥) → refusedWith r n E N out ≡ onClose P x n E N out
   unfolding onClose
-  close-refused r e f = pick-no _ _ _ _ (ne-eqb _ _ (λ z. f (e ∙ z))) (ap (λ k. refusedWith k n E N out) e)
+  close-refused r e f = when-no _ _ _ _ (ne-eqb _ _ (λ z. f (e ∙ z))) (ap (λ k. refusedWith k n E N out) e)
 
   pub close-done :
       (r depth held went : ℕ) (w : Moved) (h : Handed) (n′ : Numbers) → r ≡ refuseClose n E x → r ≡ 0 → depth ≡ n .depth → held ≡ n .held →
@@ -83,7 +83,7 @@ module _ (P : Plan) (x : ℕ) (n : Numbers) (E : Elements) (N : Queue) (out : Li
       after 0 went n′ E (h .queue) (h .out) ≡ onClose P x n E N out
   unfolding onClose closeTaken
   close-done r depth held went w h n′ er z ed eh ew ek ehn em =
-      pick-yes _ _ _ _ (eq-eqb _ _ (sym er ∙ z))
+      when-yes _ _ _ _ (eq-eqb _ _ (sym er ∙ z))
       (ap (λ k. after 0 went k E (h .queue) (h .out)) em
       ∙ ap (closeWith n E (w .held) went) ehn
       ∙ ap (closeOut n E out w) (ek ∙ ap₂ (λ d k. wentIf (ltb (w .held) k) P (take (d - 1) (E .list)) (take (w .held) (w .queue .list))) ed eh)

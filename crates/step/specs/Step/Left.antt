@@ -9,7 +9,7 @@ use native.Mathlib.Omega.{arith}
 use mathlib.Core.Path.{_≡_, refl, sym, ap, _∙_}
 use mathlib.Core.List.{List}
 use lib.Dec.{eqb}
-use Rattle.choice.specs.Pick.{pick-either}
+use Rattle.choice.specs.When.{when-either}
 use Rattle.choice.specs.Count.{boolByte-le}
 use Rattle.meaning.specs.Refusals.{badRecord, tooManyHeld}
 use Rattle.records.specs.declared.Event.{Event}
@@ -41,9 +41,9 @@ module _ (P : Plan) (n : Numbers) (E : Elements) (N : Queue) (out : List ℕ) wh
   kept-step : (e : Event) → Kept (step P e n E N out)
   unfolding step onOpen onClose
   kept-step (Open x) =
-      pick-either Kept (eqb (refuseOpen n) 0) _ _
-      (pick-either Kept (overIn P x (n .depth) (n .held) E N) _ _ (kept-refused tooManyHeld) (kept-open x)) (kept-refused (refuseOpen n))
-  kept-step (Close x) = pick-either Kept (eqb (refuseClose n E x) 0) _ _ kept-close (kept-refused (refuseClose n E x))
+      when-either Kept (eqb (refuseOpen n) 0) _ _
+      (when-either Kept (overIn P x (n .depth) (n .held) E N) _ _ (kept-refused tooManyHeld) (kept-open x)) (kept-refused (refuseOpen n))
+  kept-step (Close x) = when-either Kept (eqb (refuseClose n E x) 0) _ _ kept-close (kept-refused (refuseClose n E x))
   kept-step Bad = kept-refused badRecord
 
   pub refused-same :
@@ -74,7 +74,7 @@ module _ (P : Plan) (n : Numbers) (E : Elements) (N : Queue) (out : List ℕ) (s
   pub ended-said : (e : Event) → step P e n E N out .numbers .ended ≤ 1
   unfolding step onOpen onClose Said
   ended-said (Open x) =
-      pick-either Said (eqb (refuseOpen n) 0) _ _
-      (pick-either Said (overIn P x (n .depth) (n .held) E N) _ _ (said-refused tooManyHeld) (said-open x)) (said-refused (refuseOpen n))
-  ended-said (Close x) = pick-either Said (eqb (refuseClose n E x) 0) _ _ said-close (said-refused (refuseClose n E x))
+      when-either Said (eqb (refuseOpen n) 0) _ _
+      (when-either Said (overIn P x (n .depth) (n .held) E N) _ _ (said-refused tooManyHeld) (said-open x)) (said-refused (refuseOpen n))
+  ended-said (Close x) = when-either Said (eqb (refuseClose n E x) 0) _ _ said-close (said-refused (refuseClose n E x))
   ended-said Bad = said

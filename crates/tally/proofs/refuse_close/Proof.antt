@@ -2,7 +2,7 @@
 use borrow.Author.Needs.{needs}
 use native.Mathlib.Omega.{arith}
 use mathlib.Core.Path.{refl, _∙_}
-use Rattle.choice.specs.Pick.{pick-yes, pick-no}
+use Rattle.choice.specs.When.{when-yes, when-no}
 use Rattle.choice.specs.Count.{positive}
 use Rattle.meaning.specs.Limits.{depthLimit, heldLimit}
 use Rattle.meaning.specs.Limits.Laws.{depth-is, held-is}
@@ -18,7 +18,7 @@ get-requires c κs = search needs
 
 returns : tie.Need-returns
 unfolding refuseClose
-returns c = (pick-yes _ _ _ _ (ended-yes _ _ (c .before .get .ensures) (c .if1 .taken)) refl, λ e. absurd (omega arith))
+returns c = (when-yes _ _ _ _ (ended-yes _ _ (c .before .get .ensures) (c .if1 .taken)) refl, λ e. absurd (omega arith))
 
 get-requires-2 : tie.Need-get-requires-2
 get-requires-2 c κs = search needs
@@ -29,8 +29,8 @@ cast-depth c = search needs
 returns-2 : tie.Need-returns-2
 unfolding refuseClose
 returns-2 c = let at-get = c .before .before .before in (
-  pick-no _ _ _ _ (ended-no _ _ (at-get .get .ensures) (c .before .before .if1 .left))
-      (pick-yes _ _ _ _ (none-yes _ _ (c .before .get2 .ensures) (c .if2 .taken)) refl),
+  when-no _ _ _ _ (ended-no _ _ (at-get .get .ensures) (c .before .before .if1 .left))
+      (when-yes _ _ _ _ (none-yes _ _ (c .before .get2 .ensures) (c .if2 .taken)) refl),
   λ e. absurd (omega arith),
 )
 
@@ -38,9 +38,9 @@ returns-3 : tie.Need-returns-3
 unfolding refuseClose
 returns-3 c = let at-if1 = c .before .before .before in
     let at-get = at-if1 .before in (
-      pick-no _ _ _ _ (ended-no _ _ (at-get .get .ensures) (at-if1 .if1 .left))
-          (pick-no _ _ _ _ (none-no _ _ (c .before .before .get2 .ensures) (c .before .if2 .left))
-          (pick-yes _ _ _ _ (past _ _ (c .before .before .get2 .ensures) _ (omega (arith, depth-is))) refl)),
+      when-no _ _ _ _ (ended-no _ _ (at-get .get .ensures) (at-if1 .if1 .left))
+          (when-no _ _ _ _ (none-no _ _ (c .before .before .get2 .ensures) (c .before .if2 .left))
+          (when-yes _ _ _ _ (past _ _ (c .before .before .get2 .ensures) _ (omega (arith, depth-is))) refl)),
       λ e. absurd (omega arith),
     )
 
@@ -57,9 +57,9 @@ returns-4 c = let at-if2 = c .before .before .before in
     let at-if1 = at-get2 .before in
     let at-get = at-if1 .before in
     let start = at-get .before .before .before in (
-      pick-no _ _ _ _ (ended-no _ _ (at-get .get .ensures) (at-if1 .if1 .left)) (pick-no _ _ _ _ (none-no _ _ (at-get2 .get2 .ensures) (at-if2 .if2 .left))
-          (pick-no _ _ _ _ (within _ _ (at-get2 .get2 .ensures) depthLimit (omega (arith, depth-is)))
-          (pick-no _ _ _ _ (name-other (numbersIn (start .args .numbers .now)) (elementsIn (start .args .elements .now)) _ _ _ (at-get2 .get2 .ensures)
+      when-no _ _ _ _ (ended-no _ _ (at-get .get .ensures) (at-if1 .if1 .left)) (when-no _ _ _ _ (none-no _ _ (at-get2 .get2 .ensures) (at-if2 .if2 .left))
+          (when-no _ _ _ _ (within _ _ (at-get2 .get2 .ensures) depthLimit (omega (arith, depth-is)))
+          (when-no _ _ _ _ (name-other (numbersIn (start .args .numbers .now)) (elementsIn (start .args .elements .now)) _ _ _ (at-get2 .get2 .ensures)
           (c .before .get3 .ensures) (c .if4 .taken)) refl))),
       λ e. absurd (omega arith),
     )
@@ -78,11 +78,11 @@ returns-5 c = let at-get3 = c .before .before .before in
     let at-if1 = at-get2 .before in
     let at-get = at-if1 .before in
     let start = at-get .before .before .before in (
-      pick-no _ _ _ _ (ended-no _ _ (at-get .get .ensures) (at-if1 .if1 .left)) (pick-no _ _ _ _ (none-no _ _ (at-get2 .get2 .ensures) (at-if2 .if2 .left))
-          (pick-no _ _ _ _ (within _ _ (at-get2 .get2 .ensures) depthLimit (omega (arith, depth-is)))
-          (pick-yes _ _ _ _ (name-same (numbersIn (start .args .numbers .now)) (elementsIn (start .args .elements .now)) _ _ _ (at-get2 .get2 .ensures)
+      when-no _ _ _ _ (ended-no _ _ (at-get .get .ensures) (at-if1 .if1 .left)) (when-no _ _ _ _ (none-no _ _ (at-get2 .get2 .ensures) (at-if2 .if2 .left))
+          (when-no _ _ _ _ (within _ _ (at-get2 .get2 .ensures) depthLimit (omega (arith, depth-is)))
+          (when-yes _ _ _ _ (name-same (numbersIn (start .args .numbers .now)) (elementsIn (start .args .elements .now)) _ _ _ (at-get2 .get2 .ensures)
           (at-get3 .get3 .ensures) (c .before .before .if4 .left))
-          (pick-yes _ _ _ _ (past _ _ (c .before .get4 .ensures) heldLimit (omega (arith, held-is))) refl)))),
+          (when-yes _ _ _ _ (past _ _ (c .before .get4 .ensures) heldLimit (omega (arith, held-is))) refl)))),
       λ e. absurd (omega arith),
     )
 
@@ -94,11 +94,11 @@ returns-6 c = let at-get3 = c .before .before .before in
     let at-if1 = at-get2 .before in
     let at-get = at-if1 .before in
     let start = at-get .before .before .before in (
-      pick-no _ _ _ _ (ended-no _ _ (at-get .get .ensures) (at-if1 .if1 .left)) (pick-no _ _ _ _ (none-no _ _ (at-get2 .get2 .ensures) (at-if2 .if2 .left))
-          (pick-no _ _ _ _ (within _ _ (at-get2 .get2 .ensures) depthLimit (omega (arith, depth-is)))
-          (pick-yes _ _ _ _ (name-same (numbersIn (start .args .numbers .now)) (elementsIn (start .args .elements .now)) _ _ _ (at-get2 .get2 .ensures)
+      when-no _ _ _ _ (ended-no _ _ (at-get .get .ensures) (at-if1 .if1 .left)) (when-no _ _ _ _ (none-no _ _ (at-get2 .get2 .ensures) (at-if2 .if2 .left))
+          (when-no _ _ _ _ (within _ _ (at-get2 .get2 .ensures) depthLimit (omega (arith, depth-is)))
+          (when-yes _ _ _ _ (name-same (numbersIn (start .args .numbers .now)) (elementsIn (start .args .elements .now)) _ _ _ (at-get2 .get2 .ensures)
           (at-get3 .get3 .ensures) (c .before .before .if4 .left))
-          (pick-no _ _ _ _ (within _ _ (c .before .get4 .ensures) heldLimit (omega (arith, held-is))) refl)))),
+          (when-no _ _ _ _ (within _ _ (c .before .get4 .ensures) heldLimit (omega (arith, held-is))) refl)))),
       λ e. record {
         some = positive _ (λ z. at-if2 .if2 .left (at-get2 .get2 .ensures ∙ z));
         deep = omega (arith, depth-is, at-get2 .get2 .ensures);

@@ -19,7 +19,7 @@ use lib.Dec.{eqb, ltb}
 use lib.ListN.{length, take, drop, length-drop}
 use lib.Seq.{take-at}
 use borrow.Author.Tests.{ne-eqb, ltb-true, ltb-false}
-use Rattle.choice.specs.Pick.{pick, pick-true, pick-false, pick-known}
+use Rattle.choice.specs.When.{when, when-true, when-false, when-known}
 use Rattle.meaning.specs.Limits.{outputNeeded}
 use Rattle.meaning.specs.Limits.Laws.{node-limit-is}
 use Rattle.meaning.specs.Stream as Stream
@@ -150,7 +150,7 @@ module _ {b : List ℕ} {es : List Stream.Event} {l : Housed} (o : Of b es l) (e
       (h .1)
 
   abbrev followed : Came Housed → Fed Housed
-  followed w = pick (eqb (w .refusal) 0) (andThen (one w) (fed eventAt n (w .seat) (drop 8 bs) (drop (4 * w .listed) (w .out)))) (one w)
+  followed w = when (eqb (w .refusal) 0) (andThen (one w) (fed eventAt n (w .seat) (drop 8 bs) (drop (4 * w .listed) (w .out)))) (one w)
 
   module _ (a : Answer) (t : Session) (A B out′ : List ℕ)
       (is : _≡_ {A = Done} (record { answer = a; session = t; elements = A; nodes = B; out = out′ })
@@ -241,11 +241,11 @@ module _ {b : List ℕ} {es : List Stream.Event} {l : Housed} (o : Of b es l) (e
   unfolding refusalOf listedOf told
   next-progress (Refused m) t A B out′ is =
       let positive : 0 < m = refused-some (l .session) (take 8 bs) (l .elements) (l .nodes) out m (sym (ap (λ (d : Done). d .answer) is)) in
-      subst (BlockProgress b es bs (suc n) out) (sym (pick-false (eqb m 0) _ _ (ne-eqb m 0 (λ z. omega arith))))
+      subst (BlockProgress b es bs (suc n) out) (sym (when-false (eqb m 0) _ _ (ne-eqb m 0 (λ z. omega arith))))
       (refused-next m t A B out′ is x refl (owed (Refused m) t A B out′ is .answered))
   next-progress (Taken k) t A B out′ is =
       let w = owed (Taken k) t A B out′ is in
-      subst (BlockProgress b es bs (suc n) out) (sym (pick-true true _ _ refl))
+      subst (BlockProgress b es bs (suc n) out) (sym (when-true true _ _ refl))
       (taken-next k t A B out′ is x refl (w .answered) (w .written) (w .next))
 
 pub fed-progress :
@@ -254,7 +254,7 @@ pub fed-progress :
 unfolding fed eventAt
 fed-progress zero bs out o e h = none-progress bs out 0 (λ p w. omega arith) e o
 fed-progress {b} {es} {l} (suc n) bs out o e h =
-    pick-known (BlockProgress b es bs (suc n) out) (ltb (length out) outputNeeded) _ _
+    when-known (BlockProgress b es bs (suc n) out) (ltb (length out) outputNeeded) _ _
     (λ t. none-progress bs out (suc n) (λ p w. omega (arith, ltb-true (length out) outputNeeded t)) e o)
     (λ t.
     next-progress o e n bs out h (ltb-false (length out) outputNeeded t)

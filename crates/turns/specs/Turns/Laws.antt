@@ -20,7 +20,7 @@ use lib.Dec.{eqb}
 use lib.ListN.{length, drop, length-append, length-drop}
 use lib.Seq.{drop-drop, drop-append-le, length-take-le}
 use borrow.Author.Tests.{eqb-true, eqb-false}
-use Rattle.choice.specs.Pick.{pick, pick-true, pick-false, pick-known, never}
+use Rattle.choice.specs.When.{when, when-true, when-false, when-known, never}
 use Rattle.choice.specs.Count.{positive, boolByte-le}
 use Rattle.meaning.specs.Limits.{nodeLimit, outputNeeded}
 use Rattle.meaning.specs.Refusals.{badRecord}
@@ -64,9 +64,9 @@ record Going (refusal : ℕ) (ended written : Bool) : Type 0 where
 going : (refusal : ℕ) (ended written : Bool) → moreToDo refusal ended written ≡ true → Going refusal ended written
 unfolding moreToDo
 going refusal ended written =
-    pick-known (λ (b : Bool). b ≡ true → Going refusal ended written) _ _ _
+    when-known (λ (b : Bool). b ≡ true → Going refusal ended written) _ _ _
     (λ z.
-    pick-known (λ (b : Bool). b ≡ true → Going refusal ended written) _ _ _ (λ e h. never h)
+    when-known (λ (b : Bool). b ≡ true → Going refusal ended written) _ _ _ (λ e h. never h)
     (λ e h. record { unrefused = eqb-true _ _ z; not-ended = e; taking = h }))
     (λ z h. never h)
 
@@ -74,17 +74,17 @@ going refusal ended written =
 
 leftover-none : (left : ℕ) → leftoverOf left ≡ 0 → left ≡ 0
 unfolding leftoverOf
-leftover-none left = pick-known (λ (n : ℕ). n ≡ 0 → left ≡ 0) _ _ _ (λ z e. eqb-true left 0 z) (λ z e. absurd (omega arith))
+leftover-none left = when-known (λ (n : ℕ). n ≡ 0 → left ≡ 0) _ _ _ (λ z e. eqb-true left 0 z) (λ z e. absurd (omega arith))
 
 module _ {b bs : List ℕ} {l : Housed} {t left : ℕ} {ns : List ℕ} (o : Progress b [] bs l t 0 ns) (few : left < 8) (all : 8 * t + left ≡ length bs) where
   progress-leftover : Progress b [] bs l t (leftoverOf left) ns
   unfolding leftoverOf
   progress-leftover =
-      pick-known (λ (r : ℕ). Progress b [] bs l t r ns) (eqb left 0) 0 badRecord (λ z. o)
+      when-known (λ (r : ℕ). Progress b [] bs l t r ns) (eqb left 0) 0 badRecord (λ z. o)
       (λ z. progress-short o (omega (arith, positive left (eqb-false left 0 z))) (omega arith))
 
-  progress-at-end : (ended : Bool) → Progress b [] bs l t (pick ended (leftoverOf left) 0) ns
-  unfolding pick
+  progress-at-end : (ended : Bool) → Progress b [] bs l t (when ended (leftoverOf left) 0) ns
+  unfolding when
   progress-at-end true = progress-leftover
   progress-at-end false = o
 
@@ -141,9 +141,9 @@ module _ {b : List ℕ} {file : File} (s : State) (input E N : List ℕ) (u : Tu
 
     read-progress :
         (e : Bool) → s′ .ended ≡ e →
-        Progress b [] (u .bytes ++ m .bytes) (housed (s .session) E N) (s .taken) (pick e (leftoverOf (s .end - s .from)) 0) (u .nodes)
+        Progress b [] (u .bytes ++ m .bytes) (housed (s .session) E N) (s .taken) (when e (leftoverOf (s .end - s .from)) 0) (u .nodes)
     read-progress true e = progress-at-end (progress-more so-far (m .bytes)) few (omega (arith, read-all, ended-none e)) true
-    read-progress false e = unfold pick in progress-more so-far (m .bytes)
+    read-progress false e = unfold when in progress-more so-far (m .bytes)
 
     read-so-far : TurnsSoFar b file s′ input′ E N
     read-so-far =
@@ -159,11 +159,11 @@ module _ {b : List ℕ} {file : File} (s : State) (input E N : List ℕ) (u : Tu
               ∙ sym (drop-append-le (8 * s .taken) (u .bytes) (m .bytes) (so-far .within))
               ∙ ap (λ (t : ℕ). drop (8 * t) (u .bytes ++ m .bytes)) (sym (m .taken-same));
           at-end = m .over;
-          whole = λ e z. absurd (z (m .refused-so ∙ pick-false (s′ .ended) (leftoverOf (s .end - s .from)) 0 e));
+          whole = λ e z. absurd (z (m .refused-so ∙ when-false (s′ .ended) (leftoverOf (s .end - s .from)) 0 e));
           over =
               λ e z.
               let none-left : s .end - s .from ≡ 0 =
-              leftover-none (s .end - s .from) (sym (m .refused-so ∙ pick-true (s′ .ended) (leftoverOf (s .end - s .from)) 0 e) ∙ z) in
+              leftover-none (s .end - s .from) (sym (m .refused-so ∙ when-true (s′ .ended) (leftoverOf (s .end - s .from)) 0 e) ∙ z) in
               omega (arith, read-all, ended-none e, m .taken-same);
           delivered = λ e. u .delivered (sym (m .written-same) ∙ e);
           failed = λ e. u .failed (sym (m .written-same) ∙ e);
@@ -308,9 +308,9 @@ module _ {b : List ℕ} {file : File} {s : State} {input E N : List ℕ} (u : Tu
   pub so-far-streamed : moreToDo (s .refusal) (s .ended) (s .written) ≡ false → s .written ≡ true → Streamed b file s E N
   unfolding moreToDo refusalOf
   so-far-streamed stop t =
-      pick-known (λ (x : Bool). x ≡ false → Streamed b file s E N) (eqb (s .refusal) 0) _ _
+      when-known (λ (x : Bool). x ≡ false → Streamed b file s E N) (eqb (s .refusal) 0) _ _
       (λ z.
-      pick-known (λ (x : Bool). x ≡ false → Streamed b file s E N) (s .ended) _ _
+      when-known (λ (x : Bool). x ≡ false → Streamed b file s E N) (s .ended) _ _
       (λ e h.
       streamed-as _ (progress-all (u .offered) (eqb-true _ _ z) (u .over e (eqb-true _ _ z))) refl
       (refusal-none (s .refusal) (eqb-true _ _ z)) (inl (u .at-end e)) t)

@@ -20,7 +20,7 @@ use lib.Dec.{eqb, ltb}
 use lib.ListN.{length, getD, set}
 use lib.Seq.{getD-set-same, set-set}
 use borrow.Author.Tests.{eqb-true, eqb-false, lt-ltb, le-ltb}
-use Rattle.choice.specs.Pick.{pick, pick-yes, pick-no}
+use Rattle.choice.specs.When.{when, when-yes, when-no}
 use Rattle.words.specs.Words.{words, bytesOf, Bytes}
 use Rattle.words.specs.Words.Laws.{words-length, bytes-words, bytes-length}
 use Rattle.words.specs.Rows.{field, rows-length, rows-at, rows-same, rows-put, is-rows, field-put, field-other}
@@ -72,15 +72,15 @@ module _ {A : Type 0} (S : Shape A) (whole : Whole S) where
     inside : w * i + g < length ws
     inside = subst (λ n. w * i + g < n) (sym long) (in-room w (S .count) i g hi narrow)
 
-    here : (h : ℕ) (b : Bool) → h < w → eqb h g ≡ b → field w after i h ≡ pick b v (field w ws i h)
-    unfolding pick
+    here : (h : ℕ) (b : Bool) → h < w → eqb h g ≡ b → field w after i h ≡ when b v (field w ws i h)
+    unfolding when
     here h true l e = ap (field w after i) (eqb-true h g e) ∙ field-put w ws i g v inside
     here h false l e = field-other w ws i g v i h narrow l (λ _ same. eqb-false h g e same)
 
     this : S .make (field w after i) ≡ withField S g v (at S (recordsOf S ws) i)
     this =
-        whole .made (field w after i) (λ h. pick (eqb h g) v (S .field h (at S (recordsOf S ws) i)))
-        (λ h l. here h (eqb h g) (omega (arith, whole .fits)) refl ∙ ap (pick (eqb h g) v) (get-field ws i h hi l))
+        whole .made (field w after i) (λ h. when (eqb h g) v (S .field h (at S (recordsOf S ws) i)))
+        (λ h l. here h (eqb h g) (omega (arith, whole .fits)) refl ∙ ap (when (eqb h g) v) (get-field ws i h hi l))
 
     other : (k : ℕ) → (k ≡ i → ⊥) → S .make (field w after k) ≡ S .make (field w ws k)
     other k d =
@@ -128,11 +128,11 @@ module _ {A : Type 0} (S : Shape A) (whole : Whole S) where
       spared : ℕ
       spared = getD (getD (recordsOf S ws .spare) i []) (g - S .fields) 0
 
-      by : Dec (g < S .fields) → pick (ltb g (S .fields)) (S .field g (at S (recordsOf S ws) i)) spared ≡ field w ws i g
-      by (yes l) = sym (pick-yes (ltb g (S .fields)) (field w ws i g) _ _ (lt-ltb g (S .fields) l) (get-field ws i g hi l))
+      by : Dec (g < S .fields) → when (ltb g (S .fields)) (S .field g (at S (recordsOf S ws) i)) spared ≡ field w ws i g
+      by (yes l) = sym (when-yes (ltb g (S .fields)) (field w ws i g) _ _ (lt-ltb g (S .fields) l) (get-field ws i g hi l))
       by (no m) =
           sym
-          (pick-no (ltb g (S .fields)) (field w ws i g) _ _ (le-ltb g (S .fields) (omega arith))
+          (when-no (ltb g (S .fields)) (field w ws i g) _ _ (le-ltb g (S .fields) (omega arith))
           (sym
           (ap (λ s. getD s (g - S .fields) 0) (rows-at (S .count) (λ k. spareOf S (field w ws k)) [] i hi)
           ∙ spare-at (field w ws i) g (omega arith) hg)))

@@ -13,7 +13,7 @@ use lib.Dec.{ltb}
 use lib.ListN.{length, getD, take}
 use lib.Seq.{ext-getD, getD-take, length-take-le}
 use borrow.Author.Tests.{lt-ltb}
-use Rattle.choice.specs.Pick.{pick-true}
+use Rattle.choice.specs.When.{when-true}
 use Rattle.words.specs.Words.{word, words, bytesOf}
 use Rattle.words.specs.Words.Laws.{words-at, word-bytes}
 use Rattle.words.specs.Rows.{field, rows-at}
@@ -71,7 +71,7 @@ module _ {A : Type 0} (S : Shape A) (whole : Whole S) where
         let narrow : g < w = omega (arith, whole .fits) in
         let row : (w * i + g) / w ≡ i = mul-add-div (whole .some) i g ∙ omega (arith, div-eq-of-lt narrow) in
         let place : (w * i + g) % w ≡ g = mul-add-mod-self-left w i g ∙ mod-eq-of-lt narrow in
-        ap₂ (λ j k. numberAt S R j k) row place ∙ pick-true (ltb g (S .fields)) _ _ (lt-ltb g (S .fields) h)
+        ap₂ (λ j k. numberAt S R j k) row place ∙ when-true (ltb g (S .fields)) _ _ (lt-ltb g (S .fields) h)
 
     read-number :
         (i g : ℕ) → i < S .count → g < S .fields → S .field g (at S R i) < 4294967296 → field w (words (laid S R)) i g ≡ S .field g (at S R i)
