@@ -27,10 +27,10 @@ use Rattle.feed.specs.Steps.{Seat, seat, came, stepAt}
 abbrev pub needed : Seat → Seat
 needed s = seat (s .numbers) (take elementsNeeded (s .elements)) (take nodesNeeded (s .nodes))
 
--- the bytes past the needed ones are never touched
 abbrev pub longer : List ℕ → List ℕ → Seat → Seat
 longer A B s = seat (s .numbers) (s .elements ++ A) (s .nodes ++ B)
 
+-- the bytes past the needed ones are never touched
 abbrev pub beside : Seat → Came Seat → Came Seat
 beside s c = across (longer (drop elementsNeeded (s .elements)) (drop nodesNeeded (s .nodes))) c
 
