@@ -13,7 +13,7 @@ const MOST_OPEN: usize = 256;
 const MOST_HELD: usize = 1024;
 
 /// What a call is lent: docs/FORMATS.md has the least lengths.
-const SESSION: usize = 308;
+const SESSION: usize = 312;
 const ELEMENTS: usize = 64 * MOST_OPEN;
 const NODES: usize = 32 * MOST_HELD;
 const OUTPUT: usize = 4 * (MOST_HELD + 1);

@@ -22,6 +22,8 @@ size compassflare_finish(const byte *, size, byte *, size);
 enum { PAGE = 65536, PATIENCE = 60 };
 enum { SESSION, ELEMENTS, NODES, OUT, COUNTS, BYTES, BUFFERS };
 enum { BEGIN, EVENT, RUN, FINISH, SCRIBBLE, FILL };
+/* Where a session has the number that says whether it is stopped. */
+enum { STOPPED = 308 };
 
 static struct buffer {
     /* What it holds, also past what is lent. */
@@ -35,6 +37,10 @@ static struct {
     size answer;
     /* One past the last byte that a call changed, or 0. */
     unsigned changed[BUFFERS];
+    /* The first byte of the session that it changed, if it did. */
+    unsigned from;
+    /* The number at STOPPED before the call and after it. */
+    unsigned stopped[2];
     unsigned listed;
     byte counts[16];
 } reply;
@@ -75,6 +81,12 @@ static byte *lend(struct buffer *b, size bytes, int behind) {
     if (at != b->at || bytes != b->bytes) memcpy(at, b->held, bytes);
     b->at = at;
     b->bytes = bytes;
+    return at;
+}
+
+static unsigned unchanged(const struct buffer *b) {
+    size at = 0;
+    while (at < b->bytes && b->at[at] == b->held[at]) at++;
     return at;
 }
 
@@ -130,10 +142,14 @@ int main(void) {
             continue;
         }
         if (!take(b->held, order.bytes[BYTES])) return 1;
+        struct buffer *session = &buffers[SESSION];
+        memcpy(&reply.stopped[0], session->held + STOPPED, 4);
         alarm(PATIENCE);
         reply.answer = call(order.kind, order.bytes, order.which);
         alarm(0);
+        reply.from = unchanged(session);
         for (int c = 0; c < BUFFERS; c++) reply.changed[c] = changed(&buffers[c]);
+        memcpy(&reply.stopped[1], session->held + STOPPED, 4);
         memcpy(reply.counts, buffers[COUNTS].held, sizeof reply.counts);
         reply.listed = listed(order.kind);
         give(&reply, sizeof reply);

@@ -17,7 +17,7 @@ use Rattle.meaning.specs.Name.{passes}
 use Rattle.meaning.specs.Query.{Query, allStep, hangs, goesDeep, mainIf, mainPath}
 use Rattle.meaning.specs.Selection.{start}
 use Rattle.meaning.specs.Stream.{Event, opens, closes}
-use Rattle.cases.specs.Cases.{main-child, main-descendant, has-child, has-descendant, sameNodes}
+use Rattle.cases.specs.Case.{main-child, main-descendant, has-child, has-descendant, sameNodes}
 use Rattle.sets.specs.Set.{member, without, covers, overlaps, maskOf}
 use Rattle.engine.specs.Engine.{keepIf, keep}
 use Rattle.plan.specs.Order.{predicateIf, predicates, backPath, order, at, mask}

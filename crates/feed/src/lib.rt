@@ -55,7 +55,7 @@ pub fn feed(
         let at = 8 * taken;
         let end = at + 8;
         let from = 4 * listed;
-        let r = step::step(
+        let r = stop::guard(
             kept,
             &events[at..end],
             numbers,

@@ -46,5 +46,8 @@ pub const BAD_LENGTH: u8 = 9;
 // "a step breaks a rule; comes with the first such step's number"
 pub const BAD_STEP: u8 = 10;
 
+// "the session is stopped"
+pub const ALREADY_STOPPED: u8 = 11;
+
 // "lent room under 16,384 bytes for the open elements or under 32,768 bytes for the waiting nodes"
 pub const SHORT_ROOM: u8 = 15;

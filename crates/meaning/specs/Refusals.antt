@@ -2,14 +2,16 @@
 --
 --   shortOutput, badRecord, afterEnd, wrongClose, tooDeep, tooManyNodes, tooManyHeld, shortRoom      an event's
 --   unfinished                finish's
+--   alreadyStopped            an event's and finish's
 --   badLength, badStep        the query's (crate query)
 --   rank r                    where refusal r comes among the refusals: of those that apply, the one with the lowest rank is given
+--   stops r                   a session that has given refusal r is stopped
 --
 -- Assumes nothing. NOT here: when each applies (Answer), the limits (Limits), the order in plain words (Refusals.Laws).
 pub mod Laws
 use Prim.Native.Nat.{ℕ, _*_}
-use mathlib.Core.Bool.{Bool, true, false}
-use lib.Dec.{eqb}
+use mathlib.Core.Bool.{Bool, true, false, _&&_}
+use lib.Dec.{eqb, leb}
 
 -- "output buffer under 4,100 bytes"
 abbrev pub shortOutput : ℕ
@@ -51,14 +53,24 @@ badLength = 9
 abbrev pub badStep : ℕ
 badStep = 10
 
+-- "the session is stopped"
+abbrev pub alreadyStopped : ℕ
+alreadyStopped = 11
+
 -- "lent room under 16,384 bytes for the open elements or under 32,768 bytes for the waiting nodes"
 abbrev pub shortRoom : ℕ
 shortRoom = 15
 
--- "The lowest number that applies is given", but that 15 "comes directly after 1 and before all others": between 1, at 2, and 2, at 4
-unfoldable pub rankIf : Bool → ℕ → ℕ
-rankIf true r = 3
-rankIf false r = 2 * r
+-- "The lowest number that applies is given", but that 15 "comes directly after 1 and before all others", and 11 directly after 15: between 1, at 3, and 2,
+-- at 6
+unfoldable pub rankIf : Bool → Bool → ℕ → ℕ
+rankIf true b r = 4
+rankIf false true r = 5
+rankIf false false r = 3 * r
 
 unfoldable pub rank : ℕ → ℕ
-rank r = rankIf (eqb r shortRoom) r
+rank r = rankIf (eqb r shortRoom) (eqb r alreadyStopped) r
+
+-- "Once a session has given one of the refusals 2 to 7 it is stopped"
+unfoldable pub stops : ℕ → Bool
+stops r = leb badRecord r && leb r tooManyHeld

@@ -8,7 +8,7 @@
 --
 -- Assumes nothing. NOT here: what a step does (crate step), when room is too small (crate meaning, Answer).
 pub mod Laws
-pub mod Ended
+pub mod Alike
 use Prim.Native.Nat.{ℕ}
 use mathlib.Core.Path.{_≡_}
 use mathlib.Core.List.{List, _++_}

@@ -25,7 +25,7 @@ fn within(
         ≡ stepAt (keptIn (now (kept .entry))) (seat (numbersIn (now (numbers .entry))) (now (elements .entry)) (now (nodes .entry)))
         (now (bytes .entry)) (now (out .entry)) ⌝ }
 {
-    step::step(kept, bytes, numbers, elements, nodes, out)
+    stop::guard(kept, bytes, numbers, elements, nodes, out)
 }
 
 // Takes one event. Longer buffers are fine: their bytes past the needed ones are never touched.
@@ -44,10 +44,7 @@ pub fn offer(
 {
     let refusal = lent::refuse_lent(out.len(), elements.len(), nodes.len());
     if refusal != 0 {
-        return Stepped {
-            refusal: refusal,
-            listed: 0,
-        };
+        return stop::refused(numbers, refusal);
     }
     within(
         kept,

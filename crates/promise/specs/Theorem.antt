@@ -10,13 +10,14 @@
 --   streamOf b us           the accepted events;  nodesOf rs: the nodes that the list records in the buffers name;  waiting l: the nodes waiting in l
 --   Begins b E N r          what is promised of begin's result r for the bytes b and the room E and N
 --   Promised b us rs l      what is promised of the replies rs, of the session and of its room, after each of the uses (`first-part`)
+--   Ceased b us rs l us′ rs′ k      what is promised of further uses of a stopped session: nothing changes any more
 --   Offered, Answered       how the records of a block are offered and answered
 --   Block b us rs l .. r .. what is promised of a block: its result r and all that was lent are what single offers come to
 --   Same                    what is promised of every event on every session and room, reached or not, scribbled on or not
---   Library                 the theorem; it is proved in Theorem.Proof, by Theorem.Short, Theorem.Replies and Theorem.Blocks
+--   Library                 the theorem; it is proved in Theorem.Proof, by Theorem.Short, Theorem.Replies, Theorem.Blocks and Theorem.Stop
 --
 -- The other words are document 01's: ListedBy, HeldBy, SelectedByNone, Selected (crate meaning, Explicit: with explicit nodes and all continuations), answers
--- and accepted (meaning, Answer), Owed (crate query, Answer), Rising (each number once, in document order). BeginGives, EventGives, FinishGives and RunGives
+-- and afterAll (meaning, Answer), Owed (crate query, Answer), Rising (each number once, in document order). BeginGives, EventGives, FinishGives and RunGives
 -- are what `begin`, `event`, `finish` and `run` ensure; Housed (crate session, Run) is a session with the room for it. That refusal 7 is given where more nodes
 -- would be held than may be is said by `answers`, which counts them by the readings (meaning, Standing); that those are the nodes HeldBy is shown in meaning,
 -- Explicit.Demands. The records are those of crate element and crate node; records in use are the first ones, as many as elements are open and nodes held.
@@ -25,6 +26,7 @@
 pub mod Short
 pub mod Replies
 pub mod Blocks
+pub mod Stop
 pub mod Proof
 use Prim.Native.Nat.{ℕ, suc, _+_, _*_, _≤_, _<_}
 use mathlib.Core.Logic.{_↔_, _⊎_}
@@ -34,7 +36,7 @@ use mathlib.Core.List.{List, [], _∷_, _++_, map, flatMap, List·Memᴰ}
 use lib.Dec.{T}
 use lib.ListN.{length, take, drop}
 use Rattle.meaning.specs.Limits.{outputNeeded, elementsNeeded, nodesNeeded}
-use Rattle.meaning.specs.Refusals.{shortOutput, shortRoom}
+use Rattle.meaning.specs.Refusals.{shortOutput, shortRoom, alreadyStopped}
 use Rattle.meaning.specs.Document.{count, finished}
 use Rattle.meaning.specs.Selection.{sure-reading}
 use Rattle.meaning.specs.Explicit.{Selected}
@@ -42,7 +44,7 @@ use Rattle.meaning.specs.Explicit.Demands.{SelectedByNone, ListedBy, HeldBy}
 use Rattle.meaning.specs.Continuation.{Opened}
 use Rattle.meaning.specs.Standing.Laws.{Rising}
 use Rattle.meaning.specs.Stream.{Event, document, Stream}
-use Rattle.meaning.specs.Answer.{Call, Answer, refused, taken, tooSmall, answers, accepted, handedOut}
+use Rattle.meaning.specs.Answer.{Call, Answer, refused, taken, going, tooSmall, answers, afterAll, handedOut}
 use Rattle.query.specs.Answer as query
 use Rattle.query.specs.Answer.{Owed}
 use Rattle.query.specs.Decode.{decode, Bytes}
@@ -58,7 +60,7 @@ use Rattle.session.specs.declared.Answer as event-answer
 use Rattle.session.specs.declared.Answer.the-variants.{Refused, Taken}
 use Rattle.session.specs.declared.Ran.{Ran}
 use Rattle.session.specs.Begin.{said, BeginGives}
-use Rattle.session.specs.Event.{EventGives, FinishGives}
+use Rattle.session.specs.Event.{stoppedBy, EventGives, FinishGives}
 use Rattle.session.specs.Run.{Housed, housed, RunGives}
 use Rattle.session.specs.Told.{told, ended}
 use Rattle.promise.specs.Lending.{SameUsed, leftBy}
@@ -108,7 +110,7 @@ writtenIn (stepped r E N out) = recordsBy (r .answer) out
 writtenIn (finish f) = []
 
 abbrev pub streamOf : List ℕ → List Use → List Event
-streamOf b us = accepted (decode b) [] (map callOf us)
+streamOf b us = afterAll (decode b) (going []) (map callOf us) .events
 
 abbrev pub nodesOf : List Reply → List ℕ
 nodesOf rs = handedOut (map answerOf rs)
@@ -127,7 +129,7 @@ pub record Begins (b E N : List ℕ) (r : Begun) : Type 0 where
 
 pub record Promised (b : List ℕ) (us : List Use) (rs : List Reply) (l : Housed) : Type 0 where
   -- the answers are the meaning's, one by one; the accepted events are a stream
-  pub answered : map answerOf rs ≡ answers (decode b) [] (map callOf us)
+  pub answered : map answerOf rs ≡ answers (decode b) (going []) (map callOf us)
   pub stream : Stream (streamOf b us)
   -- the list records found in the buffers, put together, are those of the nodes read from them, and these are the list: in document order, each node once,
   -- certain, nothing undecided before
@@ -145,6 +147,8 @@ pub record Promised (b : List ℕ) (us : List Use) (rs : List Reply) (l : Housed
   pub ruled-order : Rising 1 ruled
   pub ruled-out : (n : ℕ) → List·Memᴰ n ruled ↔ (Opened (document (streamOf b us)) n × SelectedByNone (decode b) (streamOf b us) n)
   pub sum : l .session .opened ≡ l .session .handed + length ruled + l .session .held
+  -- "Once a session has given one of the refusals 2 to 7 it is stopped", and by nothing else
+  pub stopped : T (l .session .stopped) ↔ ((n : ℕ) × List·Memᴰ (refused n) (map answerOf rs) × (2 ≤ n) × (n ≤ 7))
   -- at the end of the document the list is exactly what the sentence with explicit nodes selects
   pub whole :
       T (finished (document (streamOf b us))) → (n : ℕ) → List·Memᴰ n (nodesOf rs) ↔ Selected (decode b) sure-reading (document (streamOf b us)) n
@@ -153,14 +157,26 @@ pub record Promised (b : List ℕ) (us : List Use) (rs : List Reply) (l : Housed
       (bytes E N out E′ N′ out′ : List ℕ) (r : Next) (k : ℕ) → (tooSmall (length E) (length N) ≡ false → SameUsed l E N) →
       EventGives (l .session) bytes E N out r E′ N′ out′ → r .answer ≡ Taken k → drop (4 * k) out′ ≡ drop (4 * k) out
 
--- an event on any session and any room: a refused one gives back the session and every byte of the room and of the buffer; the bytes of the room past the
--- needed ones are never touched
+-- a stopped session that calls reach, used further by us′, with the replies rs′, which leads to k: it stays stopped, every answer is 1, 15 or 11, and the list,
+-- the waiting nodes and the counts are those of the moment of the stop
+pub record Ceased (b : List ℕ) (us : List Use) (rs : List Reply) (l : Housed) (us′ : List Use) (rs′ : List Reply) (k : Housed) : Type 0 where
+  pub session : k .session ≡ l .session
+  pub answered : (a : Answer) → List·Memᴰ a (map answerOf rs′) → (a ≡ refused 1) ⊎ ((a ≡ refused 15) ⊎ (a ≡ refused 11))
+  pub stream : streamOf b (us ++ us′) ≡ streamOf b us
+  pub list : nodesOf (rs ++ rs′) ≡ nodesOf rs
+  pub waits : waiting k ≡ waiting l
+
+-- an event on any session and any room: a refused one gives back every byte of the room and of the buffer, and the session as it was but for the stop, which
+-- 2 to 7 alone are; the bytes of the room past the needed ones are never touched
 pub record Same (s : Session) (bytes E N out : List ℕ) (r : Next) (E′ N′ out′ : List ℕ) : Type 0 where
-  pub refused-same : (n : ℕ) → r .answer ≡ Refused n → (r .session ≡ s) × ((E′ ≡ E) × ((N′ ≡ N) × (out′ ≡ out)))
+  pub refused-same : (n : ℕ) → r .answer ≡ Refused n → (r .session ≡ stoppedBy n s) × ((E′ ≡ E) × ((N′ ≡ N) × (out′ ≡ out)))
+  pub others-same : (n : ℕ) → r .answer ≡ Refused n → ((2 ≤ n) × (n ≤ 7) → ⊥) → r .session ≡ s
   pub past-same : (drop elementsNeeded E′ ≡ drop elementsNeeded E) × (drop nodesNeeded N′ ≡ drop nodesNeeded N)
-  -- 1 exactly when the buffer is too short, 15 exactly when a room is too small and 1 does not apply
+  -- 1 exactly when the buffer is too short, 15 exactly when a room is too small and 1 does not apply, 11 exactly when the session is stopped and neither does
   pub short-exactly : (r .answer ≡ Refused shortOutput) ↔ (length out < outputNeeded)
   pub small-exactly : (r .answer ≡ Refused shortRoom) ↔ ((outputNeeded ≤ length out) × (tooSmall (length E) (length N) ≡ true))
+  pub stopped-exactly :
+      (r .answer ≡ Refused alreadyStopped) ↔ ((outputNeeded ≤ length out) × (tooSmall (length E) (length N) ≡ false) × T (s .stopped))
 
 -- the whole records at the start of es are offered one after the other, the first with the room E and N and the buffer out, each next with the room that the
 -- one before left and the part of the buffer behind the list records so far, and none with less of it than an event can need; A and B are what is left
@@ -191,11 +207,14 @@ pub record Block (b : List ℕ) (us : List Use) (rs : List Reply) (l : Housed) (
   pub answered : Answered (r .taken) (r .refusal) (map answerOf replies)
   pub listed : r .listed ≡ length (nodesOf replies)
   pub written : out′ ≡ recordsOf (nodesOf replies) ++ drop (4 * r .listed) out
-  pub stops : r .refusal ≡ 0 → (length es < 8 * r .taken + 8) ⊎ (length out < 4 * r .listed + outputNeeded)
+  pub ends : r .refusal ≡ 0 → (length es < 8 * r .taken + 8) ⊎ (length out < 4 * r .listed + outputNeeded)
 
 pub record Library : Type 0 where
   pub begins : (b E N : List ℕ) (r : Begun) → BeginGives b E N r → Begins b E N r
   pub keeps : {b : List ℕ} {us : List Use} {rs : List Reply} {l : Housed} → Reached b us rs l → Promised b us rs l
+  pub ceases :
+      {b : List ℕ} {us us′ : List Use} {rs rs′ : List Reply} {l k : Housed} → Reached b us rs l → T (l .session .stopped) → Played l us′ rs′ k →
+      Ceased b us rs l us′ rs′ k
   pub blocks :
       {b : List ℕ} {us : List Use} {rs : List Reply} {l : Housed} → Reached b us rs l → (es E N out : List ℕ) →
       (tooSmall (length E) (length N) ≡ false → SameUsed l E N) → (r : Ran) (A B out′ : List ℕ) → RunGives (l .session) es E N out r A B out′ →

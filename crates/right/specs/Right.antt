@@ -7,11 +7,12 @@
 --   StepOwed q d e n E N out o a     what the event e comes to, o being the first refusal that applies: a refusal leaves all as it was (refuses), an
 --                        event that none refuses is taken (takes)
 --   stands-begun         numbers that are all 0 stand for the blank document, whatever is in the records
+--   stands-still         a stop changes nothing of what they stand for
 --   ended-read, opened-read, handed-read, depth-read, held-read      what the numbers of rooms are that stand for a document
 --   waiting-read         and the waiting nodes' numbers
 --   step-right           THE STEP
 --
--- Assumes that enough is lent: refusals 1 and 15 are the caller's (crate session). NOT here: that accepted events stay within the limits.
+-- Assumes that enough is lent and that the session is not stopped: refusals 1, 15 and 11 are the callers' (crates offer and stop). NOT here: that accepted events stay within the limits.
 use Prim.Native.Nat.{ℕ, _-_, _≤_, _<_}
 use native.Mathlib.Omega.{arith}
 use mathlib.Core.Path.{_≡_, refl, sym, ap, ap₂, _∙_, subst, subst₂}
@@ -29,7 +30,7 @@ use Rattle.meaning.specs.Document.{Doc, done as done-row, within, blank, opened
 use Rattle.meaning.specs.Standing.{listed, held}
 use Rattle.meaning.specs.Stream as Stream
 use Rattle.meaning.specs.Answer.{Lent, tooSmall, eventRefusals, isBad, isOpening, closesWrong, actIf, firstOr, first}
-use Rattle.meaning.specs.Refusals.{shortOutput, shortRoom, badRecord, afterEnd, wrongClose, tooDeep, tooManyNodes, tooManyHeld}
+use Rattle.meaning.specs.Refusals.{shortOutput, shortRoom, alreadyStopped, badRecord, afterEnd, wrongClose, tooDeep, tooManyNodes, tooManyHeld}
 use Rattle.meaning.specs.Limits.{depthLimit, heldLimit, nodeLimit, outputNeeded}
 use Rattle.plan.specs.Plan.{Plan, plan}
 use Rattle.engine.specs.Quick.{State, Result, begun, opening, over, nameAt, quickOpen, quickClose}
@@ -41,7 +42,7 @@ use Rattle.records.specs.Write.{buffer}
 use Rattle.element.specs.Element.{Elements, noFrame, frameAt}
 use Rattle.node.specs.Node.{Queue}
 use Rattle.nodes.specs.Nodes.{numbers}
-use Rattle.numbers.specs.Numbers.{Numbers, numbersOf}
+use Rattle.numbers.specs.Numbers.{Numbers, numbersOf, withStop}
 use Rattle.tally.specs.Tally.{OpenFits, CloseFits, refuseOpen, refuseClose}
 use Rattle.opening.specs.Opening.{overIn}
 use Rattle.step.specs.Step.{After, refusedWith, openTaken, onOpen, closeTaken, onClose, step}
@@ -75,9 +76,13 @@ pub data StepOwed (q : Query) (d : Doc) (e : Option Stream.Event) (n : Numbers) 
   refuses : {r : ℕ} {a : After} → 0 < r → a ≡ refusedWith r n E N out → StepOwed q d e n E N out (some r) a
   takes : {a : After} → Taken q d (actIf e d) out a → StepOwed q d e n E N out none a
 
-pub stands-begun : (q : Query) (E : Elements) (N : Queue) → Roomy E N → Stands q blank (numbersOf 0 0 0 0 0) E N
+pub stands-begun : (q : Query) (E : Elements) (N : Queue) → Roomy E N → Stands q blank (numbersOf 0 0 0 0 0 0) E N
 unfolding stateIn begun
 stands-begun q E N room = record { state = sym (quick-begun q); roomy = room; deep = omega arith; few = omega arith }
+
+pub stands-still : (q : Query) (d : Doc) (n : Numbers) (E : Elements) (N : Queue) (v : ℕ) → Stands q d n E N → Stands q d (withStop v n) E N
+unfolding stateIn
+stands-still q d n E N v st = record { state = st .state; roomy = st .roomy; deep = st .deep; few = st .few }
 
 -- what is read of rooms that stand for a document
 
@@ -190,17 +195,19 @@ some-open (within p x e) h = tt
 module _ (q : Query) (d : Doc) (w : InLimits q d) (n : Numbers) (E : Elements) (N : Queue) (st : Stands q d n E N) (out : List ℕ)
     (lent : Lent) (wide : ltb (lent .out) outputNeeded ≡ false) (enough : tooSmall (lent .elements) (lent .nodes) ≡ false) where
   abbrev Owed : Option Stream.Event → After → Type 0
-  Owed e a = StepOwed q d e n E N out (first (eventRefusals q d e lent)) a
+  Owed e a = StepOwed q d e n E N out (first (eventRefusals q false d e lent)) a
 
-  -- lines 1 and 15 do not apply
-  lent-rows : (o : Option ℕ) → firstOr (ltb (lent .out) outputNeeded) shortOutput (firstOr (tooSmall (lent .elements) (lent .nodes)) shortRoom o) ≡ o
+  -- lines 1, 15 and 11 do not apply
+  abbrev later : Option ℕ → Option ℕ
+  later o =
+      firstOr (ltb (lent .out) outputNeeded) shortOutput (firstOr (tooSmall (lent .elements) (lent .nodes)) shortRoom (firstOr false alreadyStopped o))
+
+  later-rows : (o : Option ℕ) → later o ≡ o
   unfolding firstOr
-  lent-rows o = ap₂ (λ (a b : Bool). firstOr a shortOutput (firstOr b shortRoom o)) wide enough
+  later-rows o = ap₂ (λ (a b : Bool). firstOr a shortOutput (firstOr b shortRoom o)) wide enough
 
-  owed-rows :
-      (e : Option Stream.Event) (o : Option ℕ) (a : After) → StepOwed q d e n E N out o a →
-      StepOwed q d e n E N out (firstOr (ltb (lent .out) outputNeeded) shortOutput (firstOr (tooSmall (lent .elements) (lent .nodes)) shortRoom o)) a
-  owed-rows e o a h = subst (λ p. StepOwed q d e n E N out p a) (sym (lent-rows o)) h
+  owed-rows : (e : Option Stream.Event) (o : Option ℕ) (a : After) → StepOwed q d e n E N out o a → StepOwed q d e n E N out (later o) a
+  owed-rows e o a h = subst (λ p. StepOwed q d e n E N out p a) (sym (later-rows o)) h
 
   few : ltb heldLimit (n .held) ≡ false
   few = le-ltb heldLimit (n .held) (st .few)
@@ -301,5 +308,5 @@ module _ (q : Query) (d : Doc) (w : InLimits q d) (n : Numbers) (E : Elements) (
 
   -- THE STEP
   pub step-right :
-      (P : Plan) → P ≡ plan q → (e : Option Stream.Event) → StepOwed q d e n E N out (first (eventRefusals q d e lent)) (step P (shown e) n E N out)
+      (P : Plan) → P ≡ plan q → (e : Option Stream.Event) → StepOwed q d e n E N out (first (eventRefusals q false d e lent)) (step P (shown e) n E N out)
   step-right P p e = subst (λ K. Owed e (step K (shown e) n E N out)) (sym p) (any-right e)

@@ -29,7 +29,7 @@ use Rattle.session.specs.declared.Start as start
 use Rattle.session.specs.declared.Start.the-variants as started
 
 unfoldable pub fresh : Plan → Session
-fresh plan = record { kept = bytesOf (packed plan); depth = 0; held = 0; opened = 0; handed = 0; ended = false }
+fresh plan = record { kept = bytesOf (packed plan); depth = 0; held = 0; opened = 0; handed = 0; ended = false; stopped = false }
 
 unfoldable pub said : start.Start → Answer
 said started.Begun = admitted

@@ -6,7 +6,7 @@ ghost use lib.ListN.{length};
 ghost use Rattle.meaning.specs.Limits.{elementsNeeded, nodesNeeded};
 ghost use Rattle.numbers.specs.Numbers.{numbersRoom, numbersIn};
 ghost use Rattle.session.specs.Begin.{fresh, BeginGives};
-ghost use Rattle.session.specs.Event.{sessionNumbers, withNumbers, EventGives, FinishGives};
+ghost use Rattle.session.specs.Event.{sessionNumbers, withNumbers, answerBy, EventGives, FinishGives};
 ghost use Rattle.session.specs.Run.{ran, runWithin, RunGives};
 use plan::Plan;
 use query::QueryAnswer;
@@ -22,6 +22,8 @@ pub struct Session {
     pub handed: u32,
     // "the document element has been closed"
     pub ended: bool,
+    // "the session is stopped"
+    pub stopped: bool,
 }
 
 // "An event's answer is either a refusal number or a count of nodes handed out"
@@ -79,6 +81,7 @@ fn fresh(plan: Plan) -> Session
         opened: 0,
         handed: 0,
         ended: false,
+        stopped: false,
     }
 }
 
@@ -114,6 +117,16 @@ pub fn begin(query: &[u8], elements: &[u8], nodes: &[u8]) -> Begun
     }
 }
 
+// An event's answer, by what it came to.
+fn answered(refusal: u8, listed: u32) -> Answer
+    ensures { λ r. ⌜ r ≡ answerBy refusal listed ⌝ }
+{
+    if refusal != 0 {
+        return Answer::Refused(refusal);
+    }
+    Answer::Taken(listed)
+}
+
 impl Session {
     // The session's numbers in bytes.
     fn lay(self, numbers: &mut [u8])
@@ -128,6 +141,7 @@ impl Session {
             self.handed,
             self.ended as u32,
         );
+        numbers::write_stop(numbers, self.stopped as u32);
     }
 
     // The same session with the numbers in bytes.
@@ -143,6 +157,7 @@ impl Session {
             opened: numbers::get(numbers, numbers::OPENED),
             handed: numbers::get(numbers, numbers::HANDED),
             ended: numbers::get(numbers, numbers::ENDED) != 0,
+            stopped: numbers::get(numbers, numbers::STOPPED) != 0,
         }
     }
 
@@ -152,18 +167,13 @@ impl Session {
             (now (elements .exit)) (now (nodes .exit)) (now (out .exit)) ⌝ }
     {
         let kept = self.kept;
-        let mut numbers = [0u8; 20];
+        let mut numbers = [0u8; 24];
         self.lay(&mut numbers);
         let r = offer::offer(&kept, bytes, &mut numbers, elements, nodes, out);
-        if r.refusal != 0 {
-            return Next {
-                answer: Answer::Refused(r.refusal),
-                session: self,
-            };
-        }
+        let answer = answered(r.refusal, r.listed);
         let next = self.with(&numbers);
         Next {
-            answer: Answer::Taken(r.listed),
+            answer: answer,
             session: next,
         }
     }
@@ -188,7 +198,7 @@ impl Session {
         ensures { λ r. ⌜ (8 * r .taken ≤ length (now (events .entry))) × (4 * r .listed ≤ length (now (out .exit))) ⌝ }
     {
         let kept = self.kept;
-        let mut numbers = [0u8; 20];
+        let mut numbers = [0u8; 24];
         self.lay(&mut numbers);
         let fed = feed::feed(&kept, events, &mut numbers, elements, nodes, out);
         let last = self.with(&numbers);
@@ -212,7 +222,7 @@ impl Session {
         if out.len() < limits::OUTPUT {
             return self.stays(0);
         }
-        let room = lent::refuse_lent(out.len(), elements.len(), nodes.len());
+        let room = lent::refuse_room(elements.len(), nodes.len());
         if room != 0 {
             return self.stays(room);
         }
@@ -228,6 +238,9 @@ impl Session {
     pub fn finish(self) -> Finish
         ensures { λ r. ⌜ FinishGives self r ⌝ }
     {
+        if self.stopped {
+            return Finish::Refused(limits::ALREADY_STOPPED);
+        }
         if self.ended {
             return Finish::Ended(self.opened, self.handed);
         }

@@ -4,7 +4,7 @@
 --   began q E N S           begin with the query q (crate session, Begin);  startedBy a t S: the session's bytes after the answer a
 --   took S bytes E N out    an event on the session in the bytes S (crate session, Event);  numberOf a: its answer as a number;
 --                           laidBy a t S: the session's bytes after the answer a
---   blocked S es E N out C  a block of events (crate session, Run);  movedBy n t S: the session's bytes after n events
+--   blocked S es E N out C  a block of events (crate session, Run);  movedBy n r t S: the session's bytes after n events and the refusal r
 --   finished S C            finish (crate session, Event);  endNumber f: its answer as a number;  countedBy f C: the counts after it
 --   ExportBegins, ExportTakes, ExportRuns, ExportFinishes      THE PROMISES of `compassflare_begin`, `compassflare_event`, `compassflare_run` and
 --                           `compassflare_finish`: the result r, and all that was lent on return, are those
@@ -30,7 +30,7 @@ use Rattle.session.specs.Begin.{Begun, begun}
 use Rattle.session.specs.Event.{Done, event}
 use Rattle.session.specs.Event as session
 use Rattle.session.specs.Run.{Housed, housed, eventAt}
-use Rattle.session_c.specs.Laid.{sessionRoom, sessionIn, sessionBytes, countsRoom, countBytes}
+use Rattle.session_c.specs.Laid.{sessionRoom, sessionIn, sessionBytes, markedBytes, countsRoom, countBytes}
 
 abbrev pub noSession : ℕ
 noSession = 255
@@ -69,8 +69,9 @@ unfoldable pub numberOf : Answer → ℕ
 numberOf (Refused n) = n
 numberOf (Taken k) = 256 * k
 
+-- "The refused call changes nothing but this"
 unfoldable pub laidBy : Answer → Session → List ℕ → List ℕ
-laidBy (Refused n) t S = S
+laidBy (Refused n) t S = markedBytes n S
 laidBy (Taken k) t S = sessionBytes t
 
 abbrev pub tookWith : List ℕ → Done → Took
@@ -102,15 +103,15 @@ pub record Blocked : Type 0 where
   pub out : List ℕ
   pub counts : List ℕ
 
-unfoldable pub movedBy : ℕ → Session → List ℕ → List ℕ
-movedBy n t S = when (eqb n 0) S (sessionBytes t)
+unfoldable pub movedBy : ℕ → ℕ → Session → List ℕ → List ℕ
+movedBy n r t S = when (eqb n 0) (markedBytes r S) (sessionBytes t)
 
 -- the counts are how many events were taken and how many list records stand at the start of the buffer
 abbrev pub blockedWith : List ℕ → Fed Housed → Blocked
 blockedWith S f =
     record {
       number = f .refusal;
-      session = movedBy (f .taken) (f .seat .session) S;
+      session = movedBy (f .taken) (f .refusal) (f .seat .session) S;
       elements = f .seat .elements;
       nodes = f .seat .nodes;
       out = f .out;

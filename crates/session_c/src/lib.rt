@@ -1,5 +1,5 @@
-// The session's calls for callers in C and Rust. The session stands in 308 bytes that the caller lends with each call: 288 that are kept of the query
-// (crate plan_bytes) and 20 of numbers (crate numbers). Answers are numbers: 0, or the refusal's, and 256 times what comes with it.
+// The session's calls for callers in C and Rust. The session stands in 312 bytes that the caller lends with each call: 288 that are kept of the query
+// (crate plan_bytes) and 24 of numbers (crate numbers). Answers are numbers: 0, or the refusal's, and 256 times what comes with it.
 ghost use mathlib.Core.Path.{_≡_};
 ghost use mathlib.Core.List.{[], _∷_};
 ghost use lib.ListN.{length};
@@ -36,10 +36,11 @@ fn numbered(kept: [u8; 288], numbers: &[u8]) -> Session
         opened: numbers::get(numbers, numbers::OPENED),
         handed: numbers::get(numbers, numbers::HANDED),
         ended: numbers::get(numbers, numbers::ENDED) != 0,
+        stopped: numbers::get(numbers, numbers::STOPPED) != 0,
     }
 }
 
-// The session in bytes: any 308 bytes are one.
+// The session in bytes: any 312 bytes are one.
 fn session_in(room: &[u8]) -> Session
     requires { ⌜ length (now room) ≡ sessionRoom ⌝ }
     ensures { λ r. ⌜ r ≡ sessionIn (now (room .entry)) ⌝ }
@@ -50,11 +51,20 @@ fn session_in(room: &[u8]) -> Session
 }
 
 // The numbers of a session in bytes.
-fn put_numbers(numbers: &mut [u8], depth: u32, held: u32, opened: u32, handed: u32, ended: u32)
+fn put_numbers(
+    numbers: &mut [u8],
+    depth: u32,
+    held: u32,
+    opened: u32,
+    handed: u32,
+    ended: u32,
+    stopped: u32,
+)
     requires { ⌜ length (now numbers) ≡ numbersRoom ⌝ }
-    ensures { λ r. ⌜ now (numbers .exit) ≡ bytesOf (depth ∷ held ∷ opened ∷ handed ∷ ended ∷ []) ⌝ }
+    ensures { λ r. ⌜ now (numbers .exit) ≡ bytesOf (depth ∷ held ∷ opened ∷ handed ∷ ended ∷ stopped ∷ []) ⌝ }
 {
     numbers::write(numbers, depth, held, opened, handed, ended);
+    numbers::write_stop(numbers, stopped);
 }
 
 // A session in bytes.
@@ -71,6 +81,7 @@ fn put_session(session: Session, room: &mut [u8])
         session.opened,
         session.handed,
         session.ended as u32,
+        session.stopped as u32,
     );
 }
 
@@ -90,7 +101,7 @@ fn answer_begin(answer: Start, first: Session, room: &mut [u8]) -> u64
     }
 }
 
-// A session for a query, in the 308 bytes of `session`, whatever they held: 0, or the refusal's number, and 256 times the step's number with it.
+// A session for a query, in the 312 bytes of `session`, whatever they held: 0, or the refusal's number, and 256 times the step's number with it.
 #[no_mangle]
 pub extern "C" fn compassflare_begin(
     query: &[u8],
@@ -159,12 +170,13 @@ fn put_counts(counts: &mut [u8], first: u64, second: u64)
     words::put(counts, 3, (second / 4294967296) as u32);
 }
 
-// The session in bytes changes only where an event was taken.
-fn put_moved(taken: usize, next: Session, room: &mut [u8])
+// Where no event was taken the session's bytes stay as they were, but for the stop.
+fn put_moved(taken: usize, refusal: u8, next: Session, room: &mut [u8])
     requires { ⌜ length (now room) ≡ sessionRoom ⌝ }
-    ensures { λ r. ⌜ now (room .exit) ≡ movedBy taken next (now (room .entry)) ⌝ }
+    ensures { λ r. ⌜ now (room .exit) ≡ movedBy taken refusal next (now (room .entry)) ⌝ }
 {
     if taken == 0 {
+        stop::mark(&mut room[plan_bytes::ROOM..], refusal);
         return;
     }
     put_session(next, room);
@@ -192,7 +204,7 @@ pub extern "C" fn compassflare_run(
     }
     let ran = session_in(&*session).run(events, elements, nodes, out);
     let next = ran.session;
-    put_moved(ran.taken, next, session);
+    put_moved(ran.taken, ran.refusal, next, session);
     put_counts(counts, ran.taken as u64, ran.listed as u64);
     ran.refusal as u64
 }

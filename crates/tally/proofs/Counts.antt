@@ -15,13 +15,15 @@ module _ (n : Numbers) (held listed depth opened handed sum : ℕ) (ed : depth �
   total : sum ≡ (n .handed + listed) % 2 ^ 32
   total = es ∙ ap (λ h. (h + listed) % 2 ^ 32) eh
 
-  pub count-open : (n′ : Numbers) → n′ ≡ numbersOf (depth + 1) held (opened + 1) sum 0 → n′ ≡ openNumbers n held listed
+  pub count-open : (n′ : Numbers) → n′ ≡ numbersOf (depth + 1) held (opened + 1) sum 0 (n .stopped) → n′ ≡ openNumbers n held listed
   unfolding openNumbers
-  count-open n′ e = e ∙ ap₂ (λ d o. numbersOf (d + 1) held (o + 1) sum 0) ed eo ∙ ap (λ s. numbersOf (n .depth + 1) held (n .opened + 1) s 0) total
+  count-open n′ e =
+      e ∙ ap₂ (λ d o. numbersOf (d + 1) held (o + 1) sum 0 (n .stopped)) ed eo
+      ∙ ap (λ s. numbersOf (n .depth + 1) held (n .opened + 1) s 0 (n .stopped)) total
 
   pub count-close :
-      (n′ : Numbers) → n′ ≡ numbersOf (depth - 1) held opened sum (boolByte (eqb (depth - 1) 0)) → n′ ≡ closeNumbers n held listed
+      (n′ : Numbers) → n′ ≡ numbersOf (depth - 1) held opened sum (boolByte (eqb (depth - 1) 0)) (n .stopped) → n′ ≡ closeNumbers n held listed
   unfolding closeNumbers
   count-close n′ e =
-      e ∙ ap₂ (λ d o. numbersOf (d - 1) held o sum (boolByte (eqb (d - 1) 0))) ed eo
-      ∙ ap (λ s. numbersOf (n .depth - 1) held (n .opened) s (boolByte (eqb (n .depth - 1) 0))) total
+      e ∙ ap₂ (λ d o. numbersOf (d - 1) held o sum (boolByte (eqb (d - 1) 0)) (n .stopped)) ed eo
+      ∙ ap (λ s. numbersOf (n .depth - 1) held (n .opened) s (boolByte (eqb (n .depth - 1) 0)) (n .stopped)) total

@@ -6,7 +6,7 @@
 --   openNumbers n held listed, closeNumbers n held listed     the numbers after an open, or a close, that handed out `listed` nodes and after which `held` wait
 --
 -- Numbers that no calls lead to may be past every limit: an open or a close is then refused too, so that no record is left.
--- Assumes nothing. NOT here: refusals 1 and 15 (crate lent), 2 and 7 (crate step).
+-- Assumes nothing. NOT here: refusals 1 and 15 (crate lent), 11 and the stop (crate stop), 2 and 7 (crate step).
 use Prim.Native.Nat.{ℕ, _+_, _-_, _%_, _^_, _≤_, _<_}
 use mathlib.Core.Bool.{not}
 use mir.Val.{boolByte}
@@ -44,8 +44,8 @@ pub record CloseFits (n : Numbers) : Type 0 where
   pub held : n .held ≤ heldLimit
 
 unfoldable pub openNumbers : Numbers → ℕ → ℕ → Numbers
-openNumbers n held listed = numbersOf (n .depth + 1) held (n .opened + 1) ((n .handed + listed) % 2 ^ 32) 0
+openNumbers n held listed = numbersOf (n .depth + 1) held (n .opened + 1) ((n .handed + listed) % 2 ^ 32) 0 (n .stopped)
 
 unfoldable pub closeNumbers : Numbers → ℕ → ℕ → Numbers
 closeNumbers n held listed =
-    numbersOf (n .depth - 1) held (n .opened) ((n .handed + listed) % 2 ^ 32) (boolByte (eqb (n .depth - 1) 0))
+    numbersOf (n .depth - 1) held (n .opened) ((n .handed + listed) % 2 ^ 32) (boolByte (eqb (n .depth - 1) 0)) (n .stopped)

@@ -223,6 +223,8 @@ fn main() {
         let session = begun.session;
         let last = offer_all(fd, lent, session, &mut elements, &mut nodes, &mut out);
         libc::close(fd);
+        // "it changes nothing and may be asked again"
+        say_finish(last.finish());
         say_finish(last.finish());
     }
     libc::close(lent);

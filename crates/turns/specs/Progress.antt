@@ -10,6 +10,7 @@ pub mod Laws
 pub mod Block
 use Prim.Native.Nat.{ℕ, _*_, _≤_, _<_}
 use mathlib.Core.Path.{_≡_}
+use mathlib.Core.Bool.{Bool, false}
 use mathlib.Core.List.{List, _++_}
 use mathlib.Core.Option.{none, some}
 use lib.ListN.{length, drop}
@@ -21,11 +22,13 @@ use Rattle.session.specs.Run.{Housed}
 use Rattle.promise.specs.Promise.{Of}
 
 pub record Progress (b : List ℕ) (es : List Event) (bs : List ℕ) (l : Housed) (taken refusal : ℕ) (nodes : List ℕ) : Type 0 where
-  -- the events accepted by then
+  -- the events accepted by then, and whether the session is stopped
   pub events : List Event
-  pub reached : Of b events l
+  pub stop : Bool
+  pub reached : Of b (record { events = events; stopped = stop }) l
+  pub going-on : refusal ≡ 0 → stop ≡ false
   pub within : 8 * taken ≤ length bs
   pub accepted : offering (decode b) taken es bs ≡ record { events = events; refusal = none }
   pub left : (refusal ≡ 0 → ⊥) → 8 * taken < length bs
-  pub stopped : (refusal ≡ 0 → ⊥) → offering (decode b) 1 events (drop (8 * taken) bs) ≡ record { events = events; refusal = some refusal }
+  pub refused : (refusal ≡ 0 → ⊥) → offering (decode b) 1 events (drop (8 * taken) bs) ≡ record { events = events; refusal = some refusal }
   pub listing : listed (decode b) (document es) ++ nodes ≡ listed (decode b) (document events)

@@ -22,6 +22,7 @@ use Rattle.choice.specs.When.{when}
 use Rattle.meaning.specs.Limits.{nodeLimit}
 use Rattle.meaning.specs.Stream.{document}
 use Rattle.meaning.specs.Standing.{listed}
+use Rattle.meaning.specs.Answer.{going}
 use Rattle.meaning.specs.Offering.{offeringAll}
 use Rattle.query.specs.Decode.{decode}
 use Rattle.session.specs.declared.Session.{Session}
@@ -43,7 +44,7 @@ refusalOf (suc r) = some (suc r)
 
 -- "Nothing is asked of the room's content at begin"
 abbrev pub BegunFor : List ℕ → Session → Type 0
-BegunFor b session = (E N : List ℕ) → Of b [] (housed session E N)
+BegunFor b session = (E N : List ℕ) → Of b (going []) (housed session E N)
 
 pub record Started (session : Session) : Type 0 where
   pub query : List ℕ
@@ -76,7 +77,9 @@ pub record TurnsSoFar (b : List ℕ) (file : File) (s : State) (input E N : List
 pub record Streamed (b : List ℕ) (file : File) (s : State) (E N : List ℕ) : Type 0 where
   pub bytes : List ℕ
   pub received : Received file bytes
-  pub reached : Of b (offeringAll (decode b) bytes .events) (housed (s .session) E N)
+  pub stop : Bool
+  pub reached : Of b (record { events = offeringAll (decode b) bytes .events; stopped = stop }) (housed (s .session) E N)
+  pub going-on : s .refusal ≡ 0 → stop ≡ false
   pub counted : s .taken ≡ length (offeringAll (decode b) bytes .events)
   pub refusal-so : refusalOf (s .refusal) ≡ offeringAll (decode b) bytes .refusal
   pub to-end : ReadOver file ⊎ ((more : List ℕ) → offeringAll (decode b) (bytes ++ more) ≡ offeringAll (decode b) bytes)

@@ -33,7 +33,7 @@ pub enum Kind {
     Truncated,
     /// Either file empty or missing.
     Absent,
-    /// Bytes of no shape in either file.
+    /// Bytes of no shape in either file, in some cases after a beginning of events.
     Noise,
     /// A stream of 100,000 events.
     Long,
@@ -185,33 +185,57 @@ fn cut(chance: &mut Chance) -> Vec<Case> {
     (0..=events.len()).step_by(8).map(prefix).collect()
 }
 
+/// The first fault stops a session, so in three of four streams the damage is late; and in some more events come at the end.
 fn damaged_events(chance: &mut Chance) -> Case {
     let mut case = match chance.between(0, 19) {
-        0..=1 => many(chance),
-        2 => brim(chance),
+        0..=3 => many(chance),
+        4..=6 => brim(chance),
+        7..=10 => nested(chance),
         _ => base(chance),
     };
     let mut records: Vec<Vec<u8>> = case.seen().1.chunks(8).map(<[u8]>::to_vec).collect();
+    let from = *chance.pick(&[0, 4, 8, 9]);
     for _ in 0..chance.between(1, 3) {
-        let place = chance.between(0, records.len() - 1);
-        match chance.between(0, 7) {
-            0 => records[place][chance.between(0, 7)] = chance.byte(),
-            1 => records[place][chance.between(0, 7)] ^= 1 << chance.between(0, 7),
-            2 => records[place][0] ^= 3,
-            3 => records[place][3] = chance.between(0, 4) as u8,
-            4 => records.insert(place, records[chance.between(0, records.len() - 1)].clone()),
-            5 => records.push(records[place].clone()),
-            6 => {
-                // After the end of the document, if nothing else is damaged.
-                records.push(records[place].clone());
-                records.last_mut().expect("the one just pushed")[chance.between(0, 7)] = chance.byte();
-            }
-            _ if records.len() > 1 => drop(records.remove(place)),
-            _ => records.swap(0, place),
+        let place = chance.between(from * (records.len() - 1) / 10, records.len() - 1);
+        damage(chance, &mut records, place);
+    }
+    if chance.percent(40) {
+        for _ in 0..chance.between(1, 8) {
+            records.push(chance.pick(&records).clone());
         }
     }
     case.events = Some(records.concat());
     Case { kind: Kind::DamagedEvents, ..case }
+}
+
+/// Damages the record at this place, or puts another before it, or one at the end.
+fn damage(chance: &mut Chance, records: &mut Vec<Vec<u8>>, place: usize) {
+    let mut other = chance.pick(records).clone();
+    match chance.between(0, 11) {
+        0 => records[place][chance.between(0, 7)] = chance.byte(),
+        1 => records[place][chance.between(0, 7)] ^= 1 << chance.between(0, 7),
+        2 => records[place][0] ^= 3,
+        3 => records[place][3] = chance.between(0, 4) as u8,
+        4 => records.insert(place, other),
+        5 => records.extend(vec![other; chance.between(1, 4)]),
+        6 => {
+            // After the end of the document, if nothing else is damaged.
+            other[chance.between(0, 7)] = chance.byte();
+            records.push(other);
+        }
+        // A bad record or a wrong close, after which the stream goes on as if it were not there.
+        7..=8 => {
+            other[*chance.pick(&[0, 1, 4, 7])] = chance.between(3, 255) as u8;
+            records.insert(place, other);
+        }
+        9..=10 => {
+            other[0] = 2;
+            other[3] ^= chance.between(1, 3) as u8;
+            records.insert(place, other);
+        }
+        _ if records.len() > 1 => drop(records.remove(place)),
+        _ => records.swap(0, place),
+    }
 }
 
 fn damaged_query(chance: &mut Chance) -> Case {
@@ -281,8 +305,14 @@ fn noise(chance: &mut Chance) -> Case {
         let length = chance.between(0, 300);
         case.query = Some(bytes(chance, length));
     } else {
+        // From the beginning, or after some events of the document, with which a session has got somewhere.
+        let mut events = case.events.unwrap_or_default();
+        let kept = if chance.percent(50) { 8 * chance.between(0, events.len() / 8) } else { 0 };
+        events.truncate(kept);
         let length = chance.between(0, 5_000);
-        case.events = Some(bytes(chance, length));
+        let noise: Vec<u8> = bytes(chance, length);
+        events.extend(noise);
+        case.events = Some(events);
     }
     Case { kind: Kind::Noise, ..case }
 }

@@ -1,7 +1,8 @@
-//! Which replies a call may get: by what was lent to it, and where nothing was scribbled on by the second program.
+//! Which replies a call may get: by what was lent to it, by the session's stop, and where nothing was scribbled on by the
+//! second program.
 
-use crate::orders::{Buffer, Call, Kind, Lengths, Reply, COUNTS, SESSION};
-use second::answers::{Answer, Finish};
+use crate::orders::{Buffer, Call, Kind, Lengths, Reply, COUNTS, SESSION, STOPPED};
+use second::answers::{stops, Answer, Finish};
 use second::lent::{Lent, Room};
 use second::query::{Query, Refused};
 use second::{LEAST_BUFFER, MOST_HELD};
@@ -28,8 +29,8 @@ impl Lengths {
     }
 }
 
-/// The one answer that what is lent and the query allow, if they allow one alone.
-fn only(call: &Call) -> Option<u64> {
+/// The one answer that what is lent, the query and the session's stop allow, if they allow one alone.
+fn only(call: &Call, stopped: bool) -> Option<u64> {
     let Call { kind, lengths, bytes, .. } = call;
     let counts = matches!(kind, Kind::Run | Kind::Finish) && lengths.counts != COUNTS;
     if lengths.session != SESSION || counts {
@@ -44,16 +45,17 @@ fn only(call: &Call) -> Option<u64> {
         }),
         Kind::Event => match lengths.lent().refusal() {
             Some(refusal) => Some(refusal.into()),
+            None if stopped => Some(11),
             None => second::records::event(bytes).is_none().then_some(2),
         },
         // Refusal 1 is never seen: without whole records, or with less of the buffer than an event can need, none is looked at.
         Kind::Run if bytes.len() < 8 || lengths.out < LEAST_BUFFER => Some(0),
-        Kind::Run => lengths.room().refusal().map(u64::from),
-        Kind::Finish => None,
+        Kind::Run => lengths.room().refusal().map(u64::from).or(stopped.then_some(11)),
+        Kind::Finish => stopped.then_some(11),
     }
 }
 
-/// Whether a call may be answered so, whatever was scribbled.
+/// Whether a call to a session that is not stopped may be answered so, whatever was scribbled.
 fn possible(call: &Call, reply: &Reply) -> bool {
     match (call.kind, reply.answer) {
         (Kind::Begin, _) => true,
@@ -64,18 +66,50 @@ fn possible(call: &Call, reply: &Reply) -> bool {
     }
 }
 
-/// How far each buffer may change: of a refused call nothing does.
+/// Whether the call gave a refusal that stops a session.
+fn stopping(call: &Call, reply: &Reply) -> bool {
+    matches!(call.kind, Kind::Event | Kind::Run) && u8::try_from(reply.answer).is_ok_and(stops)
+}
+
+/// Whether the call took an event.
+fn took(call: &Call, reply: &Reply) -> bool {
+    match call.kind {
+        Kind::Event => reply.answer.is_multiple_of(256),
+        Kind::Run => reply.answer != NO_SESSION && reply.counts[0] > 0,
+        Kind::Begin | Kind::Finish => false,
+    }
+}
+
+/// How far each buffer may change: of a refused call nothing does, but that the session may be stopped.
 fn reach(call: &Call, reply: &Reply) -> [usize; 6] {
     let Room { elements, nodes } = Room::LEAST;
+    let counts = if call.kind == Kind::Run { COUNTS } else { 0 };
     match (call.kind, reply.answer) {
         (_, NO_SESSION) => [0; 6],
         (Kind::Begin, 0) => [SESSION, 0, 0, 0, 0, 0],
-        (Kind::Event, answer) if answer % 256 == 0 => [SESSION, elements, nodes, reply.listed.len(), 0, 0],
-        (Kind::Run, _) if reply.counts[0] == 0 => [0, 0, 0, 0, COUNTS, 0],
-        (Kind::Run, _) => [SESSION, elements, nodes, reply.listed.len(), COUNTS, 0],
         (Kind::Finish, 0) => [0, 0, 0, 0, COUNTS, 0],
-        _ => [0; 6],
+        _ if took(call, reply) => [SESSION, elements, nodes, reply.listed.len(), counts, 0],
+        _ if stopping(call, reply) => [SESSION, 0, 0, 0, counts, 0],
+        _ => [0, 0, 0, 0, counts, 0],
     }
+}
+
+/// What is wrong with the session's stop, if something is. A call that stops it without having taken an event changes no other
+/// byte of it.
+fn stopped_wrong(call: &Call, reply: &Reply) -> Option<String> {
+    let [before, after] = reply.stopped;
+    let stops = stopping(call, reply);
+    let begins = call.kind == Kind::Begin && reply.answer == 0;
+    let must = match (stops, begins) {
+        (true, _) => 1,
+        (_, true) => 0,
+        _ => before,
+    };
+    if after != must {
+        return Some(format!("the number of the stop must be {must}"));
+    }
+    let other = stops && !took(call, reply) && reply.from != STOPPED;
+    other.then(|| "more than the stop changed in the session".into())
 }
 
 /// Whether a block's counts fit what was lent.
@@ -103,11 +137,10 @@ fn agrees(expected: &Expected, reply: &Reply) -> bool {
 
 /// What is wrong with a reply, if something is.
 pub fn wrong(call: &Call, expected: Option<&Expected>, reply: &Reply) -> Option<String> {
-    if let Some(answer) = only(call).filter(|&answer| answer != reply.answer) {
-        return Some(format!("the answer can only be {answer}"));
-    }
-    if !possible(call, reply) {
-        return Some("there is no such answer".into());
+    match only(call, reply.stopped[0] != 0) {
+        Some(answer) if answer != reply.answer => return Some(format!("the answer can only be {answer}")),
+        None if !possible(call, reply) => return Some("there is no such answer".into()),
+        _ => (),
     }
     if !counted(call, reply) {
         return Some("the counts go past what was lent".into());
@@ -116,6 +149,9 @@ pub fn wrong(call: &Call, expected: Option<&Expected>, reply: &Reply) -> Option<
     if let Some(buffer) = over {
         let names = [Buffer::Session, Buffer::Elements, Buffer::Nodes, Buffer::Out, Buffer::Counts, Buffer::Bytes];
         return Some(format!("{:?} changed up to byte {}", names[buffer], reply.changed[buffer]));
+    }
+    if let Some(wrong) = stopped_wrong(call, reply) {
+        return Some(wrong);
     }
     let expected = expected.filter(|expected| !agrees(expected, reply))?;
     Some(format!("the second program answers {expected:?}"))

@@ -88,7 +88,8 @@ impl Tally {
         self.failed += 1;
         if self.failed <= 10 {
             println!("call {}: {wrong}\n  {call:?}\n  answered {}", self.passed + self.failed, reply.answer);
-            println!("  changed {:?}, counts {:?}, listed {:?}", reply.changed, reply.counts, reply.nodes());
+            println!("  changed {:?}, the session from byte {}", reply.changed, reply.from);
+            println!("  stopped {:?}, counts {:?}, listed {:?}", reply.stopped, reply.counts, reply.nodes());
         }
     }
 

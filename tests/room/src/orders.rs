@@ -2,10 +2,12 @@
 
 use std::io::{self, Read};
 
-/// A session in bytes: 288 that are kept of the query and 20 of numbers.
-pub const SESSION: usize = 308;
-/// Where its numbers begin.
+/// A session in bytes: 288 that are kept of the query and 24 of numbers.
+pub const SESSION: usize = 312;
+/// Where its numbers begin, six of 4 bytes.
 pub const NUMBERS: usize = 288;
+/// Where the last of them stands, which is not 0 if the session is stopped.
+pub const STOPPED: usize = 308;
 /// Two counts, 8 bytes each.
 pub const COUNTS: usize = 16;
 /// The most that calls.c can lend of a buffer.
@@ -102,6 +104,10 @@ pub struct Reply {
     pub answer: u64,
     /// For each buffer one past the last byte that the call changed, or 0.
     pub changed: [usize; BUFFERS],
+    /// The first byte of the session that it changed, if it did.
+    pub from: usize,
+    /// The number that says whether the session is stopped, before the call and after it.
+    pub stopped: [u32; 2],
     pub counts: [u64; 2],
     /// The list records that the answer says there are.
     pub listed: Vec<u8>,
@@ -109,14 +115,15 @@ pub struct Reply {
 
 impl Reply {
     pub fn read(from: &mut impl Read) -> io::Result<Reply> {
-        let mut bytes = [0; 56];
+        let mut bytes = [0; 64];
         from.read_exact(&mut bytes)?;
         let word = |at: usize| u32::from_le_bytes(bytes[at..at + 4].try_into().expect("4 bytes"));
         let long = |at: usize| u64::from(word(at)) + (u64::from(word(at + 4)) << 32);
-        let mut listed = vec![0; 4 * word(32) as usize];
+        let mut listed = vec![0; 4 * word(44) as usize];
         from.read_exact(&mut listed)?;
         let changed = std::array::from_fn(|buffer| word(8 + 4 * buffer) as usize);
-        Ok(Reply { answer: long(0), changed, counts: [long(36), long(44)], listed })
+        let (stopped, counts) = ([word(36), word(40)], [long(48), long(56)]);
+        Ok(Reply { answer: long(0), changed, from: word(32) as usize, stopped, counts, listed })
     }
 
     /// The nodes of the list records.

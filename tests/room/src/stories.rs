@@ -1,10 +1,10 @@
 //! Stories of calls: honest ones, which the second program answers too, and wild ones, scribbled on between the calls.
 
 use crate::judge::Expected;
-use crate::orders::{Buffer, Call, Kind, Lengths, Order, COUNTS, MOST, NUMBERS, SESSION};
+use crate::orders::{Buffer, Call, Kind, Lengths, Order, COUNTS, MOST, NUMBERS, SESSION, STOPPED};
 use random::cases::{Case, Kind as Shape};
 use random::chance::Chance;
-use second::answers::{AfterRefusal, Answer, Run};
+use second::answers::{stops, AfterRefusal, Answer, Finish, Run};
 use second::lent::{Lending, Lent, Room};
 use second::moments;
 use second::query::Query;
@@ -21,7 +21,7 @@ const ENOUGH: Lengths = Lengths {
     counts: COUNTS,
 };
 
-/// What is lent by the second program's measure, but for a session of 308 bytes and 16 for counts.
+/// What is lent by the second program's measure, but for a session of 312 bytes and 16 for counts.
 fn lengths(lent: Lent) -> Lengths {
     let [out, elements, nodes] = [lent.buffer, lent.room.elements, lent.room.nodes].map(|length| length.min(MOST));
     Lengths { elements, nodes, out, ..ENOUGH }
@@ -51,6 +51,9 @@ fn anything(chance: &mut Chance) -> [Told; 2] {
         .map(|(buffer, bytes)| (fill(chance, buffer, bytes), None))
 }
 
+/// So many events after a stop will do: they all get 1, 15 or 11.
+const AFTER_A_STOP: usize = 100;
+
 /// A case, event by event or in blocks, with nothing scribbled. A refused query is the whole story.
 pub fn honest(chance: &mut Chance, case: &Case) -> Vec<Told> {
     let (query, events) = case.seen();
@@ -60,38 +63,70 @@ pub fn honest(chance: &mut Chance, case: &Case) -> Vec<Told> {
     let mut told = Vec::from(anything(chance));
     told.push((call(Kind::Begin, start, query, behind), None));
     let Some(query) = Query::read(query).ok().filter(|_| lent.at_start().refusal().is_none()) else { return told };
-    let run = moments::run(&query, events, lent, AfterRefusal::GoOn);
+    let mut run = moments::run(&query, events, lent, AfterRefusal::OfferMore);
+    let stop =
+        run.offered.iter().position(|offered| matches!(offered.answer, Answer::Refused(refusal) if stops(refusal)));
+    run.offered.truncate(stop.map_or(usize::MAX, |place| place + 1 + AFTER_A_STOP));
+    let events = &events[..events.len().min(8 * run.offered.len())];
+    let honest = Honest { query, events, lent, run, behind };
     if case.lent.is_some() || chance.percent(50) {
-        single(&run, events, lent, behind, &mut told);
+        honest.single(chance, &mut told);
     } else {
-        blocks(chance, &run, events, behind, &mut told);
+        honest.blocks(chance, &mut told);
     }
-    told.push((call(Kind::Finish, ENOUGH, &[], behind), Some(Expected::Finish(run.finish))));
+    told.extend(honest.run.finish.map(|finish| honest.finish(finish)));
     told
 }
 
-fn single(run: &Run, events: &[u8], lent: Lending, behind: u8, told: &mut Vec<Told>) {
-    for (place, (record, offered)) in second::records::split(events).zip(&run.offered).enumerate() {
-        let expected = Expected::Event(offered.answer.clone());
-        told.push((call(Kind::Event, lengths(lent.at_event(place)), record, behind), Some(expected)));
-    }
+/// What an honest story offers, and the second program's answers.
+struct Honest<'a> {
+    query: Query,
+    events: &'a [u8],
+    lent: Lending<'a>,
+    run: Run,
+    behind: u8,
 }
 
-/// A block ends at a refused event, and the next begins after it; leftover bytes at the end are an event by themselves.
-fn blocks(chance: &mut Chance, run: &Run, events: &[u8], behind: u8, told: &mut Vec<Told>) {
-    let mut place = 0;
-    while place < events.len() / 8 {
-        let out = chance.between(LEAST_BUFFER, 3 * LEAST_BUFFER);
-        let most = (events.len() / 8 - place).min(chance.between(1, 200));
-        let (refusal, taken, nodes) = block(run, place, most, out);
-        let bytes = &events[8 * place..8 * (place + most)];
-        let expected = Expected::Block(refusal, taken, nodes);
-        told.push((call(Kind::Run, Lengths { out, ..ENOUGH }, bytes, behind), Some(expected)));
-        place += taken + usize::from(refusal != 0);
+impl Honest<'_> {
+    fn finish(&self, finish: Finish) -> Told {
+        (call(Kind::Finish, ENOUGH, &[], self.behind), Some(Expected::Finish(finish)))
     }
-    if let Some(offered) = run.offered.get(place) {
-        let expected = Expected::Event(offered.answer.clone());
-        told.push((call(Kind::Event, ENOUGH, &events[8 * place..], behind), Some(expected)));
+
+    /// Finish now and then before the event at this place: it is mostly refused, and stops nothing.
+    fn finish_between(&self, chance: &mut Chance, place: usize, told: &mut Vec<Told>) {
+        if chance.percent(1) {
+            let run = moments::run(&self.query, &self.events[..8 * place], self.lent, AfterRefusal::OfferMore);
+            told.push(self.finish(run.finish[0]));
+        }
+    }
+
+    fn single(&self, chance: &mut Chance, told: &mut Vec<Told>) {
+        for (place, (record, offered)) in second::records::split(self.events).zip(&self.run.offered).enumerate() {
+            self.finish_between(chance, place, told);
+            let expected = Expected::Event(offered.answer.clone());
+            let lengths = lengths(self.lent.at_event(place));
+            told.push((call(Kind::Event, lengths, record, self.behind), Some(expected)));
+        }
+    }
+
+    /// A block ends at a refused event, and the next begins after it; a stopped session refuses a block at its first event,
+    /// and the next begins after the block. Leftover bytes at the end are an event by themselves.
+    fn blocks(&self, chance: &mut Chance, told: &mut Vec<Told>) {
+        let (mut place, whole) = (0, self.events.len() / 8);
+        while place < whole {
+            self.finish_between(chance, place, told);
+            let out = chance.between(LEAST_BUFFER, 3 * LEAST_BUFFER);
+            let most = (whole - place).min(chance.between(1, 200));
+            let (refusal, taken, nodes) = block(&self.run, place, most, out);
+            let bytes = &self.events[8 * place..8 * (place + most)];
+            let expected = Expected::Block(refusal, taken, nodes);
+            told.push((call(Kind::Run, Lengths { out, ..ENOUGH }, bytes, self.behind), Some(expected)));
+            place += if refusal == 11 { most } else { taken + usize::from(refusal != 0) };
+        }
+        if let Some(offered) = self.run.offered.get(place) {
+            let expected = Expected::Event(offered.answer.clone());
+            told.push((call(Kind::Event, ENOUGH, &self.events[8 * place..], self.behind), Some(expected)));
+        }
     }
 }
 
@@ -137,12 +172,12 @@ fn put(buffer: Buffer, at: usize, words: Vec<u32>) -> Order {
 }
 
 /// All numbers of a session: how many elements are open and nodes held, mostly up to the limits, how many nodes were opened
-/// and handed out, and mostly that the document goes on.
+/// and handed out, and mostly that the document goes on and that the session is not stopped.
 fn numbers(chance: &mut Chance) -> Order {
     let opened = if chance.percent(80) { chance.between(0, 100_000) as u32 } else { edge(chance) };
-    let ended = if chance.percent(95) { 0 } else { edge(chance) };
+    let [ended, stopped] = [(); 2].map(|_| if chance.percent(95) { 0 } else { edge(chance) });
     let (depth, held) = (up_to(chance, MOST_OPEN), up_to(chance, MOST_HELD));
-    put(Buffer::Session, NUMBERS, vec![depth, held, opened, edge(chance), ended])
+    put(Buffer::Session, NUMBERS, vec![depth, held, opened, edge(chance), ended, stopped])
 }
 
 /// Steps as bits: few, half of them or all.
@@ -192,7 +227,7 @@ fn scribble(chance: &mut Chance) -> Order {
         3 => fill(chance, Buffer::Out, ENOUGH.out),
         4..=8 => word(chance),
         9..=12 => numbers(chance),
-        13..=14 => put(Buffer::Session, NUMBERS + 4 * chance.between(0, 4), vec![edge(chance)]),
+        13..=14 => put(Buffer::Session, NUMBERS + 4 * chance.between(0, 5), vec![edge(chance)]),
         _ => {
             let (buffer, bytes) = *chance.pick(&[
                 (Buffer::Session, SESSION),
@@ -284,12 +319,16 @@ fn start(chance: &mut Chance, case: &Case) -> Vec<Told> {
     told
 }
 
-/// Calls with scribbles between them.
+/// Calls with scribbles between them. In most stories a stop is taken away again, or most calls would find the session stopped.
 pub fn wild(chance: &mut Chance, case: &Case) -> Vec<Told> {
     let mut told = start(chance, case);
     let (often, most) = (*chance.pick(&[1, 5, 30, 100]), chance.between(10, 300));
+    let going = *chance.pick(&[0, 50, 100, 100]);
     let lent = usual(chance);
     for place in 0..most {
+        if chance.percent(going) {
+            told.push((put(Buffer::Session, STOPPED, vec![0]), None));
+        }
         if chance.percent(often) {
             told.extend((0..chance.between(1, 3)).map(|_| (scribble(chance), None)));
         }

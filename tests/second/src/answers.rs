@@ -28,23 +28,28 @@ pub struct Offered {
     pub held: usize,
 }
 
-/// Finish: the nodes opened and the nodes handed out, or refusal 8.
+/// Finish: the nodes opened and the nodes handed out, or refusal 8 or 11.
 pub type Finish = Result<(usize, usize), u8>;
 
-/// All that a run answers: one entry for each offered event, then finish.
+/// All that a run answers: one entry for each offered event, then finish, asked twice.
 #[derive(Clone, Debug, PartialEq, Eq)]
 pub struct Run {
     pub offered: Vec<Offered>,
-    pub finish: Finish,
+    pub finish: [Finish; 2],
 }
 
-/// What to do after a refused event.
+/// "Once a session has given one of the refusals 2 to 7 it is stopped"
+pub fn stops(refusal: u8) -> bool {
+    (2..=7).contains(&refusal)
+}
+
+/// What the caller does after a refused event. Whether the session is stopped is another question, and [`stops`] says it.
 #[derive(Clone, Copy, Debug, PartialEq, Eq)]
 pub enum AfterRefusal {
-    /// As the program: "It stops at the first refusal."
-    Stop,
-    /// As a session: "another event may then be offered".
-    GoOn,
+    /// Offers nothing more, as the program does.
+    Leave,
+    /// Offers all other events: a stopped session refuses them too.
+    OfferMore,
 }
 
 /// Which of the two forms answers.
@@ -70,7 +75,7 @@ pub fn program(form: Form, query: &[u8], events: &[u8]) -> String {
         Err(Refused::Length) => return "refused 9\n".into(),
         Err(Refused::Step(step)) => return format!("refused 10 at {step}\n"),
     };
-    let run = form.run(&query, events, Lending::ENOUGH, AfterRefusal::Stop);
+    let run = form.run(&query, events, Lending::ENOUGH, AfterRefusal::Leave);
     let mut text = String::new();
     for (number, offered) in (1..).zip(&run.offered) {
         match &offered.answer {
@@ -81,7 +86,7 @@ pub fn program(form: Form, query: &[u8], events: &[u8]) -> String {
             }
         }
     }
-    match run.finish {
+    match run.finish[0] {
         Ok((_, listed)) => writeln!(text, "end {listed}").unwrap(),
         Err(refusal) => writeln!(text, "refused {refusal} at {}", run.offered.len()).unwrap(),
     }
@@ -89,15 +94,15 @@ pub fn program(form: Form, query: &[u8], events: &[u8]) -> String {
 }
 
 /// Every answer of a session to which all events are offered, refused ones among them, a line each:
-/// `4 taken, held 2` or `7 taken, held 0, listed 2 3` or `8 refused 4, held 0`, then `finish opened 5 listed 2` or
-/// `finish refused 8`. A refused query is the one line that the program writes, and too little room at the start is the
-/// line `refused 15`.
+/// `4 taken, held 2` or `7 taken, held 0, listed 2 3` or `8 refused 4, held 0` or `9 refused 11, held 0`, then twice
+/// `finish opened 5 listed 2` or `finish refused 8` or `finish refused 11`. A refused query is the one line that the program
+/// writes, and too little room at the start is the line `refused 15`.
 pub fn trace(form: Form, query: &[u8], events: &[u8], lending: Lending) -> String {
     if let Some(refusal) = lending.at_start().refusal() {
         return format!("refused {refusal}\n");
     }
     let Ok(admitted) = Query::read(query) else { return program(form, query, events) };
-    let run = form.run(&admitted, events, lending, AfterRefusal::GoOn);
+    let run = form.run(&admitted, events, lending, AfterRefusal::OfferMore);
     let mut text = String::new();
     for (number, Offered { answer, held }) in (1..).zip(&run.offered) {
         match answer {
@@ -111,9 +116,11 @@ pub fn trace(form: Form, query: &[u8], events: &[u8], lending: Lending) -> Strin
             Answer::Refused(refusal) => writeln!(text, "{number} refused {refusal}, held {held}").unwrap(),
         }
     }
-    match run.finish {
-        Ok((opened, listed)) => writeln!(text, "finish opened {opened} listed {listed}").unwrap(),
-        Err(refusal) => writeln!(text, "finish refused {refusal}").unwrap(),
+    for finish in run.finish {
+        match finish {
+            Ok((opened, listed)) => writeln!(text, "finish opened {opened} listed {listed}").unwrap(),
+            Err(refusal) => writeln!(text, "finish refused {refusal}").unwrap(),
+        }
     }
     text
 }

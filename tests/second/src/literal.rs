@@ -1,6 +1,6 @@
 //! Both readings of the whole tree, computed anew after every event by the sentences of document 01.
 
-use crate::answers::{AfterRefusal, Answer, Finish, NotBegun, Offered, Run};
+use crate::answers::{stops, AfterRefusal, Answer, Finish, NotBegun, Offered, Run};
 use crate::lent::{Lending, Lent, Room};
 use crate::query::Query;
 use crate::records::{self, Event};
@@ -109,6 +109,7 @@ pub struct Session {
     tree: Tree,
     /// The verdicts on the tree as it stands.
     verdicts: Vec<Verdict>,
+    stopped: bool,
 }
 
 impl Session {
@@ -121,7 +122,7 @@ impl Session {
     }
 
     fn of(query: Query) -> Session {
-        Session { query, tree: Tree::default(), verdicts: Vec::new() }
+        Session { query, tree: Tree::default(), verdicts: Vec::new(), stopped: false }
     }
 
     pub fn tree(&self) -> &Tree {
@@ -139,26 +140,47 @@ impl Session {
 
     /// An event to which this much is lent.
     pub fn event(&mut self, record: &[u8], lent: Lent) -> Answer {
+        match self.after(record, lent) {
+            Ok((tree, verdicts)) => {
+                let (before, mut all) = (handed_out(&self.verdicts), handed_out(&verdicts));
+                assert!(all.starts_with(&before), "the list only ever grows at its end");
+                (self.tree, self.verdicts) = (tree, verdicts);
+                Answer::Taken(all.split_off(before.len()))
+            }
+            Err(refusal) => {
+                // "The refused call changes nothing but this"
+                self.stopped |= stops(refusal);
+                Answer::Refused(refusal)
+            }
+        }
+    }
+
+    /// The tree and the verdicts after an event, or its refusal: 1 or 15, then 11, then 2 to 7.
+    fn after(&self, record: &[u8], lent: Lent) -> Result<(Tree, Vec<Verdict>), u8> {
         if let Some(refusal) = lent.refusal() {
-            return Answer::Refused(refusal);
+            return Err(refusal);
         }
-        let Some(event) = records::event(record) else { return Answer::Refused(2) };
+        // "every later event and every later finish gets 11"
+        if self.stopped {
+            return Err(11);
+        }
+        let event = records::event(record).ok_or(2)?;
         if let Some(refusal) = self.tree.refusal(event) {
-            return Answer::Refused(refusal);
+            return Err(refusal);
         }
-        let mut next = self.tree.clone();
-        next.take(event);
-        let after = verdicts(&self.query, &next);
-        if matches!(event, Event::Open(_)) && held(&after).len() > MOST_HELD {
-            return Answer::Refused(7);
+        let mut tree = self.tree.clone();
+        tree.take(event);
+        let verdicts = verdicts(&self.query, &tree);
+        if matches!(event, Event::Open(_)) && held(&verdicts).len() > MOST_HELD {
+            return Err(7);
         }
-        let (before, mut all) = (handed_out(&self.verdicts), handed_out(&after));
-        assert!(all.starts_with(&before), "the list only ever grows at its end");
-        (self.tree, self.verdicts) = (next, after);
-        Answer::Taken(all.split_off(before.len()))
+        Ok((tree, verdicts))
     }
 
     pub fn finish(&self) -> Finish {
+        if self.stopped {
+            return Err(11);
+        }
         if !self.tree.is_finished() {
             return Err(8);
         }
@@ -172,11 +194,11 @@ pub fn run(query: &Query, events: &[u8], lending: Lending, after: AfterRefusal) 
     let mut offered = Vec::new();
     for (place, record) in records::split(events).enumerate() {
         let answer = session.event(record, lending.at_event(place));
-        let stop = after == AfterRefusal::Stop && matches!(answer, Answer::Refused(_));
+        let leave = after == AfterRefusal::Leave && matches!(answer, Answer::Refused(_));
         offered.push(Offered { answer, held: session.held() });
-        if stop {
+        if leave {
             break;
         }
     }
-    Run { offered, finish: session.finish() }
+    Run { offered, finish: [session.finish(), session.finish()] }
 }

@@ -10,8 +10,8 @@ use std::path::PathBuf;
 const USAGE: &str = "second [--literal] [--trace] [FOLDER]
 reads query.rec and events.rec in FOLDER (or here) and answers by the definition
   --literal  compute both readings anew after every event (slow; small streams only)
-  --trace    offer every event, also after a refusal, and write each event's answer and the held count; lent.rec, if
-             there is one, says what is lent to each call";
+  --trace    offer every event, also after a refusal, and write each event's answer and the held count, then finish's
+             answer twice; lent.rec, if there is one, says what is lent to each call";
 
 fn main() {
     let (mut form, mut traced, mut folder) = (Form::Moments, false, PathBuf::from("."));

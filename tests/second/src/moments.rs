@@ -8,13 +8,12 @@
 //! A moment is a number of accepted events: 0 is before all of them, NEVER after all. What holds of some node below or
 //! above is passed on from child to parent or from parent to child, so that depth costs nothing.
 
-use crate::answers::{AfterRefusal, Answer, Offered, Run};
+use crate::answers::{stops, AfterRefusal, Answer, Offered, Run};
 use crate::lent::Lending;
 use crate::query::{Axis, Query};
 use crate::records::{self, Event};
 use crate::tree::Tree;
 use crate::MOST_HELD;
-use std::collections::HashSet;
 
 type Moment = usize;
 const NEVER: Moment = usize::MAX;
@@ -153,26 +152,41 @@ fn story(query: &Query, tree: &Tree) -> Story {
     Story { held: held.collect(), listed }
 }
 
-/// The tree of the events that are accepted when those at the places `full` get refusal 7, and each event's refusal.
-fn accepted(events: &[u8], lending: Lending, full: &HashSet<usize>, after: AfterRefusal) -> (Tree, Vec<Option<u8>>) {
-    let (mut tree, mut refusals) = (Tree::default(), Vec::new());
+/// The events offered one after the other.
+struct Walk {
+    /// The tree of those that are accepted.
+    tree: Tree,
+    /// Each one's refusal.
+    refusals: Vec<Option<u8>>,
+    stopped: bool,
+}
+
+/// The event, or the lowest of refusals 2 to 7 that applies to it; 7 does if `full` says so.
+fn judged(tree: &Tree, record: &[u8], full: bool) -> Result<Event, u8> {
+    let event = records::event(record).ok_or(2)?;
+    tree.refusal(event).or(full.then_some(7)).map_or(Ok(event), Err)
+}
+
+/// The events offered when refusal 7 applies to the one at the place `full` and to no other.
+fn walk(events: &[u8], lending: Lending, full: Option<usize>, after: AfterRefusal) -> Walk {
+    let mut walk = Walk { tree: Tree::default(), refusals: Vec::new(), stopped: false };
     for (place, record) in records::split(events).enumerate() {
-        let refusal = lending.at_event(place).refusal().or_else(|| match records::event(record) {
-            None => Some(2),
-            Some(event) => tree.refusal(event).or_else(|| full.contains(&place).then_some(7)).or_else(|| {
-                tree.take(event);
-                None
-            }),
-        });
-        refusals.push(refusal);
-        if refusal.is_some() && after == AfterRefusal::Stop {
+        // "every later event and every later finish gets 11"
+        let first = lending.at_event(place).refusal().or(walk.stopped.then_some(11));
+        let answer = first.map_or_else(|| judged(&walk.tree, record, full == Some(place)), Err);
+        if let Ok(event) = answer {
+            walk.tree.take(event);
+        }
+        walk.refusals.push(answer.err());
+        walk.stopped |= answer.is_err_and(stops);
+        if answer.is_err() && after == AfterRefusal::Leave {
             break;
         }
     }
-    (tree, refusals)
+    walk
 }
 
-/// The place of the first event accepted so far that is "an open after which more than 1,024 nodes would be held".
+/// The place of the first accepted event that is "an open after which more than 1,024 nodes would be held".
 fn first_full(events: &[u8], refusals: &[Option<u8>], held: &[usize]) -> Option<usize> {
     let taken = records::split(events).zip(refusals).enumerate().filter(|(_, (_, refusal))| refusal.is_none());
     let mut full = taken
@@ -183,23 +197,21 @@ fn first_full(events: &[u8], refusals: &[Option<u8>], held: &[usize]) -> Option<
 
 /// All events of a file offered in order.
 pub fn run(query: &Query, events: &[u8], lending: Lending, after: AfterRefusal) -> Run {
-    let mut full = HashSet::new();
-    loop {
-        let (tree, refusals) = accepted(events, lending, &full, after);
-        let story = story(query, &tree);
-        // What comes after an event changes nothing at it, so the first such open is refused whatever follows.
-        match first_full(events, &refusals, &story.held) {
-            Some(place) => full.insert(place),
-            None => return told(&tree, &refusals, story),
-        };
+    let walked = walk(events, lending, None, after);
+    let story = story(query, &walked.tree);
+    // Refusal 7 stops a session, so there is at most one. What comes after an event changes nothing at it, so the story up to
+    // there is the same.
+    match first_full(events, &walked.refusals, &story.held) {
+        None => told(&walked, story),
+        full => told(&walk(events, lending, full, after), story),
     }
 }
 
 /// The answers, event by event.
-fn told(tree: &Tree, refusals: &[Option<u8>], mut story: Story) -> Run {
+fn told(walk: &Walk, mut story: Story) -> Run {
     let all_listed = story.listed.iter().map(Vec::len).sum();
     let (mut offered, mut event) = (Vec::new(), 0);
-    for refusal in refusals {
+    for refusal in &walk.refusals {
         let answer = match refusal {
             Some(refusal) => Answer::Refused(*refusal),
             None => {
@@ -209,5 +221,10 @@ fn told(tree: &Tree, refusals: &[Option<u8>], mut story: Story) -> Run {
         };
         offered.push(Offered { answer, held: story.held[event] });
     }
-    Run { offered, finish: if tree.is_finished() { Ok((tree.opened(), all_listed)) } else { Err(8) } }
+    let finish = match (walk.stopped, walk.tree.is_finished()) {
+        (true, _) => Err(11),
+        (false, false) => Err(8),
+        (false, true) => Ok((walk.tree.opened(), all_listed)),
+    };
+    Run { offered, finish: [finish; 2] }
 }

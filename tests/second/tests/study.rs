@@ -65,9 +65,9 @@ fn listed(steps: &[Step], tree: &str) -> Vec<(usize, Vec<usize>)> {
     let query = Query::read(&write(steps)).expect("an admitted query");
     let stream = bytes(&events(tree));
     let [literal, moments] =
-        [Form::Literal, Form::Moments].map(|f| f.run(&query, &stream, Lending::ENOUGH, AfterRefusal::GoOn));
+        [Form::Literal, Form::Moments].map(|f| f.run(&query, &stream, Lending::ENOUGH, AfterRefusal::OfferMore));
     assert_eq!(literal, moments);
-    assert!(literal.finish.is_ok());
+    assert!(literal.finish.iter().all(Result::is_ok));
     let nodes = literal.offered.into_iter().map(|o| match o.answer {
         Answer::Taken(nodes) => nodes,
         Answer::Refused(refusal) => panic!("refused {refusal}"),
@@ -190,13 +190,13 @@ fn p11_a_fresh_session() {
 }
 
 #[test]
-fn p12_a_refused_close_changes_nothing() {
+fn p12_a_refused_close_stops_the_session() {
     let [r, d] = [number("r"), number("d")];
     let stream = bytes(&[Event::Open(r), Event::Close(d), Event::Close(r)]);
     for form in [Form::Literal, Form::Moments] {
         let text = trace(form, &write(&[main_step(Child, 0, "r")]), &stream, Lending::ENOUGH);
-        let lines = ["1 taken, held 0, listed 1", "2 refused 4, held 0", "3 taken, held 0", "finish opened 1 listed 1"];
-        assert_eq!(text.lines().collect::<Vec<_>>(), lines);
+        let lines = ["1 taken, held 0, listed 1", "2 refused 4, held 0", "3 refused 11, held 0"];
+        assert_eq!(text.lines().collect::<Vec<_>>(), [&lines[..], &["finish refused 11"; 2]].concat());
     }
 }
 
@@ -288,7 +288,7 @@ fn a_file_says_what_is_lent() {
     for form in [Form::Literal, Form::Moments] {
         let text = trace(form, &query, &stream, Lending(&some));
         let lines = ["1 refused 15, held 0", "2 refused 1, held 0", "3 refused 15, held 0", "4 refused 4, held 0"];
-        assert_eq!(text.lines().collect::<Vec<_>>(), [&lines[..], &["finish refused 8"]].concat());
+        assert_eq!(text.lines().collect::<Vec<_>>(), [&lines[..], &["finish refused 11"; 2]].concat());
         assert_eq!(trace(form, &[], &stream, Lending(&lent(&[small]))), "refused 15\n");
         assert_eq!(trace(form, &[], &stream, Lending(&lent(&[ENOUGH]))), "refused 9\n");
     }
@@ -296,17 +296,21 @@ fn a_file_says_what_is_lent() {
 
 #[test]
 fn the_lowest_refusal_is_given() {
-    let r = number("r");
-    let mut session = begin(&write(&[main_step(Child, 0, "d")]));
-    assert_eq!(session.event(&[], Lent { buffer: 0, room: ROOM }), Answer::Refused(1));
-    for e in [Event::Open(r), Event::Close(r)] {
-        assert_eq!(offer(&mut session, &record(e)), Answer::Taken(vec![]));
-    }
-    assert_eq!(offer(&mut session, &[1, 0, 0, 5, 0, 0, 0]), Answer::Refused(2));
-    assert_eq!(offer(&mut session, &[1, 0, 0, 0, 0, 0, 0, 0]), Answer::Refused(2));
-    assert_eq!(offer(&mut session, &record(Event::Open(r))), Answer::Refused(3));
-    assert_eq!(offer(&mut session, &record(Event::Close(number("d")))), Answer::Refused(3));
-    assert_eq!(session.finish(), Ok((1, 0)));
+    let [r, d] = [number("r"), number("d")];
+    // Refusals 2 to 7 stop a session, so each has one of its own.
+    let after = |taken: &[Event], record: &[u8], lent: Lent| {
+        let mut session = begin(&write(&[main_step(Child, 0, "d")]));
+        for event in taken {
+            assert_eq!(offer(&mut session, &self::record(*event)), Answer::Taken(vec![]));
+        }
+        session.event(record, lent)
+    };
+    let closed = [Event::Open(r), Event::Close(r)];
+    assert_eq!(after(&[], &[], Lent { buffer: 0, ..ENOUGH }), Answer::Refused(1));
+    assert_eq!(after(&closed, &[1, 0, 0, 5, 0, 0, 0], ENOUGH), Answer::Refused(2));
+    assert_eq!(after(&closed, &[1, 0, 0, 0, 0, 0, 0, 0], ENOUGH), Answer::Refused(2));
+    assert_eq!(after(&closed, &record(Event::Open(r)), ENOUGH), Answer::Refused(3));
+    assert_eq!(after(&closed, &record(Event::Close(d)), ENOUGH), Answer::Refused(3));
 }
 
 #[test]

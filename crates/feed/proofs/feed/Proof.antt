@@ -59,26 +59,26 @@ add-end c = let g = goes-true _ _ _ _ (c .before .goes-on .ensures) (c .if1 .tak
 mul-from : tie.Need-mul-from Inv-loop μ-loop
 mul-from c = let h = c .before .before .loop .inv .1 .1 .fits in search needs
 
-sub-step : tie.Need-sub-step Inv-loop μ-loop
-sub-step c = search needs
+sub-guard : tie.Need-sub-guard Inv-loop μ-loop
+sub-guard c = search needs
 
-part-step-start : tie.Need-part-step-start Inv-loop μ-loop
-part-step-start c = omega arith
+part-guard-start : tie.Need-part-guard-start Inv-loop μ-loop
+part-guard-start c = omega arith
 
-part-step-end : tie.Need-part-step-end Inv-loop μ-loop
-part-step-end c = let g = goes-true _ _ _ _ (c .before .goes-on .ensures) (c .if1 .taken) in omega (arith, g .more)
+part-guard-end : tie.Need-part-guard-end Inv-loop μ-loop
+part-guard-end c = let g = goes-true _ _ _ _ (c .before .goes-on .ensures) (c .if1 .taken) in omega (arith, g .more)
 
-sub-step-2 : tie.Need-sub-step-2 Inv-loop μ-loop
-sub-step-2 c = c .before .before .before .before .before .before .loop .inv .1 .1 .fits
+sub-guard-2 : tie.Need-sub-guard-2 Inv-loop μ-loop
+sub-guard-2 c = c .before .before .before .before .before .before .loop .inv .1 .1 .fits
 
-part-step-start-2 : tie.Need-part-step-start-2 Inv-loop μ-loop
-part-step-start-2 c = c .before .before .before .before .before .before .loop .inv .1 .1 .fits
+part-guard-start-2 : tie.Need-part-guard-start-2 Inv-loop μ-loop
+part-guard-start-2 c = c .before .before .before .before .before .before .loop .inv .1 .1 .fits
 
-part-step-end-2 : tie.Need-part-step-end-2 Inv-loop μ-loop
-part-step-end-2 c = le-refl _
+part-guard-end-2 : tie.Need-part-guard-end-2 Inv-loop μ-loop
+part-guard-end-2 c = le-refl _
 
-step-requires : tie.Need-step-requires Inv-loop μ-loop
-step-requires c κs = let at-if1 = c .before .before .before .before .before in
+guard-requires : tie.Need-guard-requires Inv-loop μ-loop
+guard-requires c κs = let at-if1 = c .before .before .before .before .before in
     let at-goes-on = at-if1 .before in
     let at-loop = at-goes-on .before in
     let inv = at-loop .loop .inv in
@@ -98,7 +98,7 @@ add-listed c = let stepped = c .before .before .before .before .before .before .
     let u = at-loop .loop .inv .1 .1 in
     let goes = goes-true _ _ _ _ (at-goes-on .goes-on .ensures) (at-if1 .if1 .taken) in
     let good = at-loop .before .before .before .before .before .before .before .good in
-    omega (arith, goes .wide, u .fits, u .long, stepped .step .ensures .1, good .1 .1 .1 .1 .1 .0)
+    omega (arith, goes .wide, u .fits, u .long, stepped .guard .ensures .1, good .1 .1 .1 .1 .1 .0)
 
 cast-taken : tie.Need-cast-taken Inv-loop μ-loop
 cast-taken c = search needs
@@ -109,7 +109,7 @@ add-taken c = let at-if1 = c .before .before .before .before .before .before .be
     let at-loop = at-goes-on .before in
     let goes = goes-true _ _ _ _ (at-goes-on .goes-on .ensures) (at-if1 .if1 .taken) in
     let good = at-loop .before .before .before .before .before .before .before .good in
-    let refusal = c .before .before .before .before .before .before .before .before .before .step .result .refusal in
+    let refusal = c .before .before .before .before .before .before .before .before .before .guard .result .refusal in
     omega (arith, goes .more, boolByte-le (eqb refusal 0), good .1 .0)
 
 loop-less : tie.Need-loop-less Inv-loop μ-loop
@@ -119,7 +119,7 @@ loop-less c = let stepped = c .before .before .before .before .before .before .b
     let at-loop = at-goes-on .before in
     let goes = goes-true _ _ _ _ (at-goes-on .goes-on .ensures) (at-if1 .if1 .taken) in
     let events = at-loop .before .before .before .before .before .before .before .args .events .now in
-    counted-less (length events / 8) (at-loop .loop .taken) (at-loop .loop .refusal) (stepped .step .result .refusal) (goes .unrefused)
+    counted-less (length events / 8) (at-loop .loop .taken) (at-loop .loop .refusal) (stepped .guard .result .refusal) (goes .unrefused)
     (omega (arith, goes .more))
 
 loop-again : tie.Need-loop-again Inv-loop μ-loop
@@ -140,9 +140,9 @@ loop-again c = (
       let came =
       step-came (keptIn (start .args .kept .now)) (numbersIn (l .numbers)) (l .elements) (l .nodes) _ _ long-elements long-nodes (inv .1 .0 .0) (inv .1 .0 .1)
       _ _ _ _ _ _ (search needs) (search needs) (λ i. at-elements .slice-known6 .given i .fits) (λ i. at-nodes .slice-known7 .given i .fits)
-      (stepped .step .ensures .0) in (
+      (stepped .guard .ensures .0) in (
         (λ i. at-elements .slice-known6 .given i .fits, λ i. at-nodes .slice-known7 .given i .fits),
-        turn-underway _ _ _ _ _ (inv .1 .1) goes _ _ _ _ came (search (needs, c .before .before .out .given)) (stepped .step .ensures .1),
+        turn-underway _ _ _ _ _ (inv .1 .1) goes _ _ _ _ came (search (needs, c .before .before .out .given)) (stepped .guard .ensures .1),
       ),
 )
 
@@ -176,13 +176,13 @@ feed-spec =
     mul-at
     add-end
     mul-from
-    sub-step
-    part-step-start
-    part-step-end
-    sub-step-2
-    part-step-start-2
-    part-step-end-2
-    step-requires
+    sub-guard
+    part-guard-start
+    part-guard-end
+    sub-guard-2
+    part-guard-start-2
+    part-guard-end-2
+    guard-requires
     cast-listed
     add-listed
     cast-taken

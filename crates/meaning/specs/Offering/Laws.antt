@@ -1,7 +1,7 @@
 -- Offers that follow each other.
 --
 --   offering-then           n records after m that were all accepted: two blocks one after the other are one stream
---   offering-stopped        nothing is offered after a refusal
+--   offering-refused        nothing is offered after a refusal
 --   offering-more           bytes behind the records that are offered change nothing
 --   offering-short          fewer than 8 bytes are a bad record
 --   one-record, refused-record     one record that is accepted, or refused
@@ -28,7 +28,7 @@ use Rattle.meaning.specs.Document.{Doc, done, within, blank, countRow, c
 use Rattle.meaning.specs.Document.Laws.{depth-opened, depth-closed, count-opened, count-closed}
 use Rattle.meaning.specs.Stream.{Event, opens, closes, fits, act, run, document, always, Stream}
 use Rattle.meaning.specs.Record.{isRecord, eventIf, eventOf}
-use Rattle.meaning.specs.Answer.{enough, event, isBad, tooSmall, eventRefusals, refusals, firstOr, first, yield, answerIf, answer, after}
+use Rattle.meaning.specs.Answer.{enough, event, Past, going, isBad, tooSmall, eventRefusals, refusals, firstOr, first, yield, answerIf, answer, after}
 use Rattle.meaning.specs.Answer.Laws.{taken-added}
 use Rattle.meaning.specs.Answer.Bounds.{Bounded}
 use Rattle.meaning.specs.Offering.{Offering, offer, unlessRefused, offering}
@@ -36,8 +36,8 @@ use Rattle.meaning.specs.Offering.{Offering, offer, unlessRefused, offer
 abbrev accepted : List Event → Offering
 accepted es = record { events = es; refusal = none }
 
-abbrev stopped : List Event → ℕ → Offering
-stopped es r = record { events = es; refusal = some r }
+abbrev refusedAfter : List Event → ℕ → Offering
+refusedAfter es r = record { events = es; refusal = some r }
 
 some-none : (r : ℕ) → _≡_ {A = Option ℕ} (some r) none → ⊥
 some-none r e = let z : _≡_ {A = ℕ} 0 1 = cc in omega arith
@@ -70,24 +70,24 @@ module _ (q : Query) where
       ∙ then-by _ es es′ _ _ _
       (λ h.
       let at : 8 + 8 * m ≡ 8 * suc m = omega arith in
-      offering-then m n (after q es (offer bs)) es′ (drop 8 bs) h
+      offering-then m n (after q (going es) (offer bs) .events) es′ (drop 8 bs) h
       ∙ ap (offering q n es′) (drop-drop (8 * m) 8 bs ∙ ap (λ (k : ℕ). drop k bs) at))
       e
 
-  stops-by :
-      (o : Option ℕ) (es es′ : List Event) (r : ℕ) (v w : Offering) → (v ≡ stopped es′ r → w ≡ stopped es′ r) →
-      unlessRefused o es v ≡ stopped es′ r → unlessRefused o es w ≡ stopped es′ r
+  refuses-by :
+      (o : Option ℕ) (es es′ : List Event) (r : ℕ) (v w : Offering) → (v ≡ refusedAfter es′ r → w ≡ refusedAfter es′ r) →
+      unlessRefused o es v ≡ refusedAfter es′ r → unlessRefused o es w ≡ refusedAfter es′ r
   unfolding unlessRefused
-  stops-by none es es′ r v w f e = f e
-  stops-by (some k) es es′ r v w f e = e
+  refuses-by none es es′ r v w f e = f e
+  refuses-by (some k) es es′ r v w f e = e
 
-  pub offering-stopped :
-      (m n : ℕ) (es es′ : List Event) (r : ℕ) (bs : List ℕ) → offering q m es bs ≡ stopped es′ r → offering q (m + n) es bs ≡ stopped es′ r
+  pub offering-refused :
+      (m n : ℕ) (es es′ : List Event) (r : ℕ) (bs : List ℕ) → offering q m es bs ≡ refusedAfter es′ r → offering q (m + n) es bs ≡ refusedAfter es′ r
   unfolding offering
-  offering-stopped zero n es es′ r bs e = absurd (some-none r (sym (ap (λ (x : Offering). x .refusal) e)))
-  offering-stopped (suc m) n es es′ r bs e =
+  offering-refused zero n es es′ r bs e = absurd (some-none r (sym (ap (λ (x : Offering). x .refusal) e)))
+  offering-refused (suc m) n es es′ r bs e =
       ap (λ (k : ℕ). offering q k es bs) (suc-add m n)
-      ∙ stops-by _ es es′ r _ _ (offering-stopped m n (after q es (offer bs)) es′ r (drop 8 bs)) e
+      ∙ refuses-by _ es es′ r _ _ (offering-refused m n (after q (going es) (offer bs) .events) es′ r (drop 8 bs)) e
 
   pub offering-more : (n : ℕ) (es : List Event) (bs more : List ℕ) → 8 * n ≤ length bs → offering q n es (bs ++ more) ≡ offering q n es bs
   unfolding offering
@@ -96,44 +96,48 @@ module _ (q : Query) where
       let head : take 8 (bs ++ more) ≡ take 8 bs = take-append-le 8 bs more (omega arith) in
       let tail : drop 8 (bs ++ more) ≡ drop 8 bs ++ more = drop-append-le 8 bs more (omega arith) in
       ap₂
-      (λ (x y : List ℕ). unlessRefused (first (refusals q (document es) (event x enough))) es (offering q n (after q es (event x enough)) y))
+      (λ (x y : List ℕ). unlessRefused (first (refusals q (going es) (event x enough))) es (offering q n (after q (going es) (event x enough) .events) y))
       head tail
-      ∙ ap (unlessRefused (first (refusals q (document es) (offer bs))) es)
-      (offering-more n (after q es (offer bs)) (drop 8 bs) more (omega (arith, length-drop 8 bs)))
+      ∙ ap (unlessRefused (first (refusals q (going es) (offer bs))) es)
+      (offering-more n (after q (going es) (offer bs) .events) (drop 8 bs) more (omega (arith, length-drop 8 bs)))
 
   -- one record
-  pub one-record : (es : List Event) (bs : List ℕ) → first (refusals q (document es) (offer bs)) ≡ none → offering q 1 es bs ≡ accepted (after q es (offer bs))
+  pub one-record :
+      (es : List Event) (bs : List ℕ) → first (refusals q (going es) (offer bs)) ≡ none →
+      offering q 1 es bs ≡ accepted (after q (going es) (offer bs) .events)
   unfolding offering unlessRefused
-  one-record es bs e = ap (λ (o : Option ℕ). unlessRefused o es (accepted (after q es (offer bs)))) e
+  one-record es bs e = ap (λ (o : Option ℕ). unlessRefused o es (accepted (after q (going es) (offer bs) .events))) e
 
-  pub refused-record : (es : List Event) (bs : List ℕ) (r : ℕ) → first (refusals q (document es) (offer bs)) ≡ some r → offering q 1 es bs ≡ stopped es r
+  pub refused-record : (es : List Event) (bs : List ℕ) (r : ℕ) → first (refusals q (going es) (offer bs)) ≡ some r → offering q 1 es bs ≡ refusedAfter es r
   unfolding offering unlessRefused
-  refused-record es bs r e = ap (λ (o : Option ℕ). unlessRefused o es (accepted (after q es (offer bs)))) e
+  refused-record es bs r e = ap (λ (o : Option ℕ). unlessRefused o es (accepted (after q (going es) (offer bs) .events))) e
 
-  -- "Leftover bytes under 8 are a bad record": 2 applies, and 1 and 15 do not
-  pub offering-short : (es : List Event) (bs : List ℕ) → length bs < 8 → offering q 1 es bs ≡ stopped es 2
+  -- "Leftover bytes under 8 are a bad record": 2 applies, and 1, 15 and 11 do not
+  pub offering-short : (es : List Event) (bs : List ℕ) → length bs < 8 → offering q 1 es bs ≡ refusedAfter es 2
   offering-short es bs h =
       refused-record es bs 2
       (unfold refusals eventRefusals tooSmall first firstOr isBad outputNeeded elementsNeeded nodesNeeded elementRecord waitingRecord depthLimit heldLimit in
-      ap (λ (x : Option Event). first (eventRefusals q (document es) x enough)) (ap eventOf (take-all 8 bs (omega arith)) ∙ short-bad bs h))
+      ap (λ (x : Option Event). first (eventRefusals q false (document es) x enough)) (ap eventOf (take-all 8 bs (omega arith)) ∙ short-bad bs h))
 
   -- each record that is accepted is one event more
-  record-added : (es : List Event) (bs : List ℕ) → first (refusals q (document es) (offer bs)) ≡ none → length (after q es (offer bs)) ≡ length es + 1
+  record-added :
+      (es : List Event) (bs : List ℕ) → first (refusals q (going es) (offer bs)) ≡ none →
+      length (after q (going es) (offer bs) .events) ≡ length es + 1
   unfolding answer answerIf yield
   record-added es bs e =
-      let t = taken-added q es (take 8 bs) enough _ (ap (λ (o : Option ℕ). answerIf o (yield q (document es) (offer bs))) e) in
-      ap length (t .2) ∙ length-append es (t .0 ∷ [])
+      let t = taken-added q (going es) (take 8 bs) enough _ (ap (λ (o : Option ℕ). answerIf o (yield q (document es) (offer bs))) e) in
+      ap (λ (p : Past). length (p .events)) (t .2) ∙ length-append es (t .0 ∷ [])
 
   pub length-offered : (n : ℕ) (es es′ : List Event) (bs : List ℕ) → offering q n es bs ≡ accepted es′ → length es′ ≡ length es + n
   unfolding offering unlessRefused
   length-offered zero es es′ bs e = let s : es ≡ es′ = ap (λ (x : Offering). x .events) e in omega (arith, ap length s)
   length-offered (suc n) es es′ bs e =
-      by (first (refusals q (document es) (offer bs))) refl (length-offered n (after q es (offer bs)) es′ (drop 8 bs)) e
+      by (first (refusals q (going es) (offer bs))) refl (length-offered n (after q (going es) (offer bs) .events) es′ (drop 8 bs)) e
     where
       by :
-          (o : Option ℕ) → first (refusals q (document es) (offer bs)) ≡ o →
-          (offering q n (after q es (offer bs)) (drop 8 bs) ≡ accepted es′ → length es′ ≡ length (after q es (offer bs)) + n) →
-          unlessRefused o es (offering q n (after q es (offer bs)) (drop 8 bs)) ≡ accepted es′ → length es′ ≡ length es + suc n
+          (o : Option ℕ) → first (refusals q (going es) (offer bs)) ≡ o →
+          (offering q n (after q (going es) (offer bs) .events) (drop 8 bs) ≡ accepted es′ → length es′ ≡ length (after q (going es) (offer bs) .events) + n) →
+          unlessRefused o es (offering q n (after q (going es) (offer bs) .events) (drop 8 bs)) ≡ accepted es′ → length es′ ≡ length es + suc n
       by none l f e = omega (arith, f e, record-added es bs l)
       by (some r) l f e = absurd (some-none r (ap (λ (x : Offering). x .refusal) e))
 

@@ -1,4 +1,4 @@
--- All five fields of the record. Assumes nothing.
+-- All that events count. Assumes nothing.
 use borrow.Author.Needs.{needs}
 use Rattle.numbers.specs.Numbers.Laws.{write-parts}
 use Rattle.numbers.proofs.write.Statement.{statement}

@@ -15,10 +15,19 @@ use Rattle.offer.proofs.offer.Tie as tie
 refuse-lent-requires : tie.Need-refuse-lent-requires
 refuse-lent-requires c κs = search needs
 
+refused-requires : tie.Need-refused-requires
+refused-requires c κs = search needs
+
+same-length : tie.Need-same-length
+same-length c = search needs
+
 returns : tie.Need-returns
-returns c = let args = c .before .before .before .before .before .before .before .before .args in
-    offer-lent (keptIn (args .kept .now)) (seat (numbersIn (args .numbers .now)) (args .elements .now) (args .nodes .now)) (args .bytes .now) (args .out .now) _
-    (c .before .refuse-lent .ensures .0) (c .if1 .taken)
+returns c = let at-refused = c .before .before in
+    let at-if = at-refused .before .before in
+    let given = at-refused .refused .ensures in
+    let args = at-if .before .before .before .before .before .before .before .before .args in
+    offer-lent (keptIn (args .kept .now)) (seat (numbersIn (args .numbers .now)) (args .elements .now) (args .nodes .now)) (args .bytes .now) (args .out .now)
+    _ _ _ (at-if .before .refuse-lent .ensures .0) (at-if .if1 .taken) (given .0) (given .1)
 
 slice-relend-prefix-within : tie.Need-slice-relend-prefix-within
 slice-relend-prefix-within c = let at-if = c .before in
@@ -54,9 +63,6 @@ within-requires c κs = let at-if = c .before .before .before .before in
       ),
     )
 
-same-length : tie.Need-same-length
-same-length c = search needs
-
 same-length-2 : tie.Need-same-length-2
 same-length-2 c = search needs
 
@@ -65,6 +71,9 @@ same-length-3 c = search needs
 
 same-length-4 : tie.Need-same-length-4
 same-length-4 c = search needs
+
+same-length-5 : tie.Need-same-length-5
+same-length-5 c = search needs
 
 returns-2 : tie.Need-returns-2
 returns-2 c = let at-within = c .before .before .before .before .before .before .before .before in
@@ -79,14 +88,16 @@ offer-spec =
     tie.close
     (tie.spec
     refuse-lent-requires
+    refused-requires
+    same-length
     returns
     slice-relend-prefix-within
     slice-aggregate-within
     slice-relend-prefix-within-2
     slice-aggregate-within-2
     within-requires
-    same-length
     same-length-2
     same-length-3
     same-length-4
+    same-length-5
     returns-2)

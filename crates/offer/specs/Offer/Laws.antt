@@ -3,7 +3,7 @@
 --   offer-lent            refusals 1 and 15, by the lengths of what is lent
 --   offer-parts           any other answer, by the parts of the room that were lent on
 --   offered-long          on longer room: a step, and the bytes past the needed ones as they were
---   offered-refused       a refused event leaves all as it was
+--   offered-refused       a refused event leaves all as it was but for the stop
 --   offer-one             two results that the promise allows are equal, and so is all that was lent
 --
 -- What is large is given explicitly. Assumes nothing.
@@ -20,30 +20,43 @@ use Rattle.lent.specs.Lent.{refuseRoom, refuseLent}
 use Rattle.meaning.specs.Answer.{tooSmall}
 use Rattle.meaning.specs.Answer.Laws.{not-small}
 use Rattle.meaning.specs.Limits.{outputNeeded, elementsNeeded, nodesNeeded}
-use Rattle.meaning.specs.Refusals.{shortOutput, shortRoom}
+use Rattle.meaning.specs.Refusals.{shortOutput, shortRoom, stops}
 use Rattle.plan.specs.Plan.{Plan}
+use Rattle.numbers.specs.Numbers.{Numbers}
 use Rattle.step.specs.declared.Stepped.{Stepped}
+use Rattle.stop.specs.Stop.{markedBy}
+use Rattle.stop.specs.Stop.Laws.{marked-other}
 use Rattle.feed.specs.Fed.{Came}
 use Rattle.feed.specs.Fed.Across.{across}
-use Rattle.feed.specs.Steps.{Seat, seat, came, stepAt}
+use Rattle.feed.specs.Steps.{Seat, seat, came, stoppedAt, stepAt}
 use Rattle.feed.specs.Steps.Laws.{refused-at}
 use Rattle.offer.specs.Offer.{needed, longer, beside, offered, OfferGives}
 
--- by the tests of what is lent
+-- by the tests of what is lent: 1 and 15 stop nothing
+
+lent-is :
+    (r : ℕ) (s : Seat) (n′ : Numbers) (out : List ℕ) (k : ℕ) → stops k ≡ false → r ≡ k → n′ ≡ markedBy r (s .numbers) →
+    came r 0 (seat n′ (s .elements) (s .nodes)) out ≡ came k 0 s out
+lent-is r s n′ out k idle e m =
+    ap₂ (λ (x : ℕ) (y : Numbers). came x 0 (seat y (s .elements) (s .nodes)) out) e
+    (m ∙ ap (λ (x : ℕ). markedBy x (s .numbers)) e ∙ marked-other k (s .numbers) idle)
 
 lent-cases :
-    (a b : Bool) (r : ℕ) (s : Seat) (out : List ℕ) (c : Came Seat) → r ≡ when a shortOutput (when b shortRoom 0) → (r ≡ 0 → ⊥) →
-    came r 0 s out ≡ when a (came shortOutput 0 s out) (when b (came shortRoom 0 s out) c)
+    (a b : Bool) (r : ℕ) (s : Seat) (n′ : Numbers) (out : List ℕ) (c : Came Seat) → r ≡ when a shortOutput (when b shortRoom 0) → (r ≡ 0 → ⊥) →
+    n′ ≡ markedBy r (s .numbers) →
+    came r 0 (seat n′ (s .elements) (s .nodes)) out ≡ when a (came shortOutput 0 s out) (when b (came shortRoom 0 s out) c)
 unfolding when
-lent-cases true b r s out c e f = ap (λ (k : ℕ). came k 0 s out) e
-lent-cases false true r s out c e f = ap (λ (k : ℕ). came k 0 s out) e
-lent-cases false false r s out c e f = absurd (f e)
+lent-cases true b r s n′ out c e f m = lent-is r s n′ out shortOutput (unfold stops in refl) e m
+lent-cases false true r s n′ out c e f m = lent-is r s n′ out shortRoom (unfold stops in refl) e m
+lent-cases false false r s n′ out c e f m = absurd (f e)
 
 pub offer-lent :
-    (P : Plan) (s : Seat) (bytes out : List ℕ) (r : ℕ) → r ≡ refuseLent (length out) (length (s .elements)) (length (s .nodes)) → (r ≡ 0 → ⊥) →
-    came r 0 s out ≡ offered P s bytes out
+    (P : Plan) (s : Seat) (bytes out : List ℕ) (r : Stepped) (k : ℕ) (n′ : Numbers) →
+    k ≡ refuseLent (length out) (length (s .elements)) (length (s .nodes)) → (k ≡ 0 → ⊥) → r ≡ record { refusal = k; listed = 0 } →
+    n′ ≡ markedBy k (s .numbers) → OfferGives P s bytes out r (seat n′ (s .elements) (s .nodes)) out
 unfolding offered refuseLent refuseRoom
-offer-lent P s bytes out r e f = lent-cases _ _ r s out _ e f
+offer-lent P s bytes out r k n′ e f given m =
+    ap (λ (x : Stepped). came (x .refusal) (x .listed) (seat n′ (s .elements) (s .nodes)) out) given ∙ lent-cases _ _ k s n′ out _ e f m
 
 -- by the parts of the room that were lent on: k and l are how long they are
 pub offer-parts :
@@ -77,23 +90,28 @@ offered-long P s A B bytes out longE longN h =
 
 module _ (P : Plan) (s : Seat) (bytes out : List ℕ) where
   Kept : Came Seat → Type 0
-  Kept c = (c .refusal ≡ 0 → ⊥) → c ≡ came (c .refusal) 0 s out
+  Kept c = (c .refusal ≡ 0 → ⊥) → c ≡ came (c .refusal) 0 (stoppedAt (c .refusal) s) out
 
-  kept-lent : (r : ℕ) → Kept (came r 0 s out)
+  -- 1 and 15 stop nothing
+  kept-lent : (r : ℕ) → stops r ≡ false → Kept (came r 0 s out)
   unfolding Kept
-  kept-lent r f = refl
+  kept-lent r e f = ap (λ (n : Numbers). came r 0 (seat n (s .elements) (s .nodes)) out) (sym (marked-other r (s .numbers) e))
 
   kept-step : Kept (beside s (stepAt P (needed s) bytes out))
   unfolding Kept
   kept-step f =
+      let r : ℕ = stepAt P (needed s) bytes out .refusal in
       ap (beside s) (refused-at P (needed s) bytes out f)
-      ∙ ap₂ (λ (X Y : List ℕ). came (stepAt P (needed s) bytes out .refusal) 0 (seat (s .numbers) X Y) out)
+      ∙ ap₂ (λ (X Y : List ℕ). came r 0 (seat (markedBy r (s .numbers)) X Y) out)
       (take-append-drop elementsNeeded (s .elements)) (take-append-drop nodesNeeded (s .nodes))
 
-  pub offered-refused : (offered P s bytes out .refusal ≡ 0 → ⊥) → offered P s bytes out ≡ came (offered P s bytes out .refusal) 0 s out
+  pub offered-refused :
+      (offered P s bytes out .refusal ≡ 0 → ⊥) →
+      offered P s bytes out ≡ came (offered P s bytes out .refusal) 0 (stoppedAt (offered P s bytes out .refusal) s) out
   unfolding offered Kept
   offered-refused =
-      when-either Kept _ _ _ (kept-lent shortOutput) (when-either Kept _ _ _ (kept-lent shortRoom) kept-step)
+      when-either Kept _ _ _ (kept-lent shortOutput (unfold stops in refl))
+      (when-either Kept _ _ _ (kept-lent shortRoom (unfold stops in refl)) kept-step)
 
   pub offer-one :
       (r r′ : Stepped) (t t′ : Seat) (o o′ : List ℕ) → OfferGives P s bytes out r t o → OfferGives P s bytes out r′ t′ o′ →

@@ -19,8 +19,8 @@ use lib.ListN.{length, take, length-append}
 use borrow.Author.Tests.{lt-ltb, ltb-true, ltb-false}
 use Rattle.choice.specs.When.{when, when-false}
 use Rattle.meaning.specs.Limits.{elementsNeeded, nodesNeeded}
-use Rattle.meaning.specs.Refusals.{shortRoom, unfinished, badLength, badStep}
-use Rattle.meaning.specs.Answer.{tooSmall}
+use Rattle.meaning.specs.Refusals.{shortRoom, alreadyStopped, unfinished, badLength, badStep}
+use Rattle.meaning.specs.Answer.{going, tooSmall}
 use Rattle.meaning.specs.Answer.Laws.{not-small}
 use Rattle.meaning.specs.Stream.{Event, document}
 use Rattle.meaning.specs.Standing.{listed}
@@ -51,26 +51,30 @@ use Rattle.pick.specs.Program.{finishLineOf, lastLineBy, owedOutputBy, o
 -- the last line
 
 finish-by :
-    (x : Bool) (k h n : ℕ) → finishLine (when x (Ended k h) (Refused unfinished)) n ≡ when x (endLine h) (refusedAtLine unfinished n)
+    (x : Bool) (k h n : ℕ) →
+    finishLine (when false (Refused alreadyStopped) (when x (Ended k h) (Refused unfinished))) n ≡ when x (endLine h) (refusedAtLine unfinished n)
 unfolding when
 finish-by true k h n = refl
 finish-by false k h n = refl
 
-finish-owed : {b : List ℕ} {es : List Event} {l : Housed} → Of b es l → finishLine (finish (l .session)) (length es) ≡ finishLineOf (decode b) es
+finish-owed : {b : List ℕ} {es : List Event} {l : Housed} → Of b (going es) l → finishLine (finish (l .session)) (length es) ≡ finishLineOf (decode b) es
 unfolding finish finishLineOf
 finish-owed {b} {es} {l} o =
-    finish-by (l .session .ended) (l .session .opened) (l .session .handed) (length es)
+    ap (λ (y : Bool). finishLine (when y (Refused alreadyStopped)
+    (when (l .session .ended) (Ended (l .session .opened) (l .session .handed)) (Refused unfinished))) (length es)) (o .stop)
+    ∙ finish-by (l .session .ended) (l .session .opened) (l .session .handed) (length es)
     ∙ ap₂ (λ (x : Bool) (h : ℕ). when x (endLine h) (refusedAtLine unfinished (length es))) (ended-is o) (handed-is o)
 
+-- finish is asked only where no event was refused, and then the session is not stopped
 pub last-line-owed :
-    {b : List ℕ} {es : List Event} {l : Housed} → Of b es l → (f : Finish) → f ≡ finish (l .session) → (taken r : ℕ) → taken ≡ length es →
-    lastLine f taken r ≡ lastLineBy (refusalOf r) (decode b) es
+    {b : List ℕ} {es : List Event} {stop : Bool} {l : Housed} → Of b (record { events = es; stopped = stop }) l → (f : Finish) →
+    f ≡ finish (l .session) → (taken r : ℕ) → (r ≡ 0 → stop ≡ false) → taken ≡ length es → lastLine f taken r ≡ lastLineBy (refusalOf r) (decode b) es
 unfolding lastLineBy refusalOf
-last-line-owed {b} {es} o f e taken zero t =
+last-line-owed {b} {es} {l = l} o f e taken zero on t =
     ap (λ (n : ℕ). finishLine f n) t
     ∙ ap (λ (g : Finish). finishLine g (length es)) e
-    ∙ finish-owed o
-last-line-owed o f e taken (suc r) t =
+    ∙ finish-owed (subst (λ (x : Bool). Of b (record { events = es; stopped = x }) l) (on refl) o)
+last-line-owed o f e taken (suc r) on t =
     ap (λ (x : Bool). cond x (refusedAtLine (suc r) (taken + 1)) (finishLine f taken)) (lt-ltb 0 (suc r) (omega arith))
     ∙ ap (λ (n : ℕ). refusedAtLine (suc r) (n + 1)) t
 
@@ -86,7 +90,7 @@ streamed-lined {b} {file} {s} op cl st f e text r line =
       delivered = st .delivered;
       line =
           line
-          ∙ last-line-owed (st .reached) f e (s .taken) (s .refusal) (st .counted)
+          ∙ last-line-owed (st .reached) f e (s .taken) (s .refusal) (st .going-on) (st .counted)
           ∙ ap (λ (x : Option ℕ). lastLineBy x (decode b) (offeringAll (decode b) (st .bytes) .events)) (st .refusal-so);
     }
 

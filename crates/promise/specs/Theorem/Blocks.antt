@@ -2,7 +2,7 @@
 --
 --   Singly l n es E N out f     f is what single offers of the first n records of es come to, on the session of l lent E and N, and with the buffer out
 --   fed-singly              what session promises of a block is that, on a session that calls reach
---   played-append           one play after another;  first-part: a first part of a play
+--   played-append           one play after another;  first-part: a first part of a play;  reached-by: a play from the same begin
 --   block                   THE BLOCK is as promised;  run-some: it has a result;  use-some: a sequence of uses goes on
 --
 -- Assumes nothing.
@@ -21,9 +21,8 @@ use Rattle.choice.specs.When.{when, when-true, when-false, when-known, when-eit
 use Rattle.choice.specs.Count.{positive}
 use Rattle.meaning.specs.Limits.{outputNeeded}
 use Rattle.meaning.specs.Refusals.{shortRoom}
-use Rattle.meaning.specs.Stream.{Event}
 use Rattle.meaning.specs.Answer as meaning
-use Rattle.meaning.specs.Answer.{Call, tooSmall, answer, handedBy, handedOut}
+use Rattle.meaning.specs.Answer.{Call, Past, tooSmall, answer, handedBy, handedOut}
 use Rattle.query.specs.Decode.{decode}
 use Rattle.records.specs.Write.{recordsOf, nodesIn}
 use Rattle.records.specs.Write.Laws.{length-records, records-append, length-nodes}
@@ -36,12 +35,13 @@ use Rattle.session.specs.declared.Next.{Next}
 use Rattle.session.specs.declared.Answer.{Answer}
 use Rattle.session.specs.declared.Answer.the-variants.{Refused, Taken}
 use Rattle.session.specs.declared.Ran.{Ran}
-use Rattle.session.specs.Event.{Done, sessionNumbers, settled, toldOf, event, EventGives}
-use Rattle.session.specs.Event.Laws.{event-cases}
+use Rattle.session.specs.Event.{Done, settled, toldOf, event, EventGives}
+use Rattle.session.specs.Event.Laws.{answer-refused, event-cases}
 use Rattle.session.specs.Run.{Housed, housed, refusalOf, listedOf, cameAs, eventAt, ran, RunGives}
 use Rattle.session.specs.Told.{told}
 use Rattle.promise.specs.Lending.{SameUsed, leftBy}
-use Rattle.promise.specs.Promise.{Of, event-of, event-answered, event-written}
+use Rattle.promise.specs.Promise.{Of}
+use Rattle.promise.specs.Promise.Event.{event-of, event-answered, event-written}
 use Rattle.promise.specs.Theorem as theorem
 use Rattle.promise.specs.Theorem.{Use, offer, Reply, stepped, Played, unused, by-event, by-finish, Reached, answerOf, recordsBy, nodesOf}
 use Rattle.promise.specs.Theorem.{Offered, no-more, one-more, Answered, all-taken, then-refused, one-taken}
@@ -58,7 +58,7 @@ record Singly (l : Housed) (n : ℕ) (es E N out : List ℕ) (f : Fed Housed) : 
   answered : Answered (f .taken) (f .refusal) (map answerOf replies)
   listed : f .listed ≡ length (nodesOf replies)
   written : f .out ≡ recordsOf (nodesOf replies) ++ drop (4 * f .listed) out
-  stops : f .refusal ≡ 0 → (f .taken ≡ n) ⊎ (length out < 4 * f .listed + outputNeeded)
+  ends : f .refusal ≡ 0 → (f .taken ≡ n) ⊎ (length out < 4 * f .listed + outputNeeded)
 
 -- no event is looked at
 none-singly :
@@ -77,7 +77,7 @@ none-singly l n es E N out used why =
       answered = all-taken;
       listed = refl;
       written = refl;
-      stops = λ z. why;
+      ends = λ z. why;
     }
 
 -- room that was just given back has the records in use
@@ -90,17 +90,9 @@ unfolding leftBy
 left-is l E N t A B enough = when-false (tooSmall (length E) (length N)) _ (housed t A B) enough
 
 -- a refusal has a number
-Numbered : Done → Type 0
-Numbered d = (x : ℕ) → d .answer ≡ Refused x → 0 < x
-
 pub refused-some : (s : Session) (bytes E N out : List ℕ) (x : ℕ) → event s bytes E N out .answer ≡ Refused x → 0 < x
-unfolding event settled Numbered
-refused-some s bytes E N out =
-    when-known Numbered (eqb (came .refusal) 0) _ _ (λ t x e. let z : _≡_ {A = ℕ} 0 1 = cc in absurd (omega arith))
-    (λ f x e. let z : x ≡ came .refusal = cc in subst (λ k. 0 < k) (sym z) (positive (came .refusal) (eqb-false (came .refusal) 0 f)))
-  where
-    came : Came Seat
-    came = offered (keptIn (s .kept)) (seat (sessionNumbers s) E N) bytes out
+unfolding event settled
+refused-some s bytes E N out x e = positive x (answer-refused _ _ x e .1)
 
 -- an event that is taken was lent enough
 taken-enough :
@@ -118,7 +110,7 @@ taken-enough s bytes E N out k wide e = by (tooSmall (length E) (length N)) refl
         ∙ when-true (tooSmall (length E) (length N)) _ _ t) in
         let z : _≡_ {A = ℕ} 0 1 = cc in absurd (omega arith)
 
-module _ {b : List ℕ} {fs : List Event} {l : Housed} (o : Of b fs l) (n : ℕ) (es E N out : List ℕ)
+module _ {b : List ℕ} {p : Past} {l : Housed} (o : Of b p l) (n : ℕ) (es E N out : List ℕ)
     (used : tooSmall (length E) (length N) ≡ false → SameUsed l E N) (whole : 8 ≤ length es) (wide : outputNeeded ≤ length out)
     (t : Session) (A B out′ : List ℕ) where
   abbrev came : Answer → Came Housed
@@ -143,7 +135,7 @@ module _ {b : List ℕ} {fs : List Event} {l : Housed} (o : Of b fs l) (n : ℕ)
         answered = subst (λ k. Answered k x (meaning.refused x ∷ [])) (sym (none-taken x some)) (then-refused some);
         listed = refl;
         written = back .1 .1 .1;
-        stops = λ z. absurd (omega arith);
+        ends = λ z. absurd (omega arith);
       }
     where
       none-taken : (x : ℕ) → 0 < x → boolByte (eqb x 0) ≡ 0
@@ -171,8 +163,8 @@ module _ {b : List ℕ} {fs : List Event} {l : Housed} (o : Of b fs l) (n : ℕ)
     first : take (4 * k) out′ ≡ recordsOf ns
     unfolding told recordsBy handedBy
     first =
-        let e : meaning.taken ns ≡ answer (decode b) fs c = event-answered o (take 8 es) E N out used r A B out′ g in
-        told-records (Taken k) (answer (decode b) fs c) out out′ e (event-written o (take 8 es) E N out used r A B out′ g)
+        let e : meaning.taken ns ≡ answer (decode b) p c = event-answered o (take 8 es) E N out used r A B out′ g in
+        told-records (Taken k) (answer (decode b) p c) out out′ e (event-written o (take 8 es) E N out used r A B out′ g)
         ∙ ap (λ (a : meaning.Answer). recordsOf (handedBy a)) (sym e)
 
     first-long : length (recordsBy (Taken k) out′) ≡ 4 * k
@@ -209,7 +201,7 @@ module _ {b : List ℕ} {fs : List Event} {l : Housed} (o : Of b fs l) (n : ℕ)
               ∙ ap (λ (m : List ℕ). recordsOf ns ++ (recordsOf (nodesOf (rest .replies)) ++ m)) behind
               ∙ sym (append-assoc (recordsOf ns) (recordsOf (nodesOf (rest .replies))) _)
               ∙ ap (_++ drop (4 * (k + f .listed)) out) (sym (records-append ns (nodesOf (rest .replies))));
-          stops = λ z. later (rest .stops z) left;
+          ends = λ z. later (rest .ends z) left;
         }
       where
         later : (f .taken ≡ n) ⊎ (length (drop (4 * k) out′) < 4 * f .listed + outputNeeded) → length (drop (4 * k) out′) ≡ length out - 4 * k →
@@ -219,9 +211,9 @@ module _ {b : List ℕ} {fs : List Event} {l : Housed} (o : Of b fs l) (n : ℕ)
 
 -- one event, and then the rest
 module _ (n : ℕ) {b : List ℕ}
-    (rest : (fs : List Event) (l : Housed) → Of b fs l → (es E N out : List ℕ) → (tooSmall (length E) (length N) ≡ false → SameUsed l E N) →
+    (rest : (p : Past) (l : Housed) → Of b p l → (es E N out : List ℕ) → (tooSmall (length E) (length N) ≡ false → SameUsed l E N) →
     8 * n ≤ length es → Singly l n es E N out (fed eventAt n (housed (l .session) E N) es out))
-    {fs : List Event} {l : Housed} (o : Of b fs l) (es E N out : List ℕ) (used : tooSmall (length E) (length N) ≡ false → SameUsed l E N)
+    {p : Past} {l : Housed} (o : Of b p l) (es E N out : List ℕ) (used : tooSmall (length E) (length N) ≡ false → SameUsed l E N)
     (whole : 8 * suc n ≤ length es) (wide : outputNeeded ≤ length out) where
   abbrev followed : Came Housed → Fed Housed
   followed c = when (eqb (c .refusal) 0) (andThen (one c) (fed eventAt n (c .seat) (drop 8 es) (drop (4 * c .listed) (c .out)))) (one c)
@@ -248,15 +240,15 @@ module _ (n : ℕ) {b : List ℕ}
       (drop 8 es) A B (drop (4 * k) out′) (λ x. used-back t A B) (omega (arith, length-drop 8 es))))
 
 fed-singly :
-    (n : ℕ) {b : List ℕ} {fs : List Event} {l : Housed} → Of b fs l → (es E N out : List ℕ) → (tooSmall (length E) (length N) ≡ false → SameUsed l E N) →
+    (n : ℕ) {b : List ℕ} {p : Past} {l : Housed} → Of b p l → (es E N out : List ℕ) → (tooSmall (length E) (length N) ≡ false → SameUsed l E N) →
     8 * n ≤ length es → Singly l n es E N out (fed eventAt n (housed (l .session) E N) es out)
 unfolding fed eventAt
 fed-singly zero {l = l} o es E N out used h = none-singly l zero es E N out used (inl refl)
-fed-singly (suc n) {b} {fs} {l} o es E N out used h =
+fed-singly (suc n) {b} {p} {l} o es E N out used h =
     when-known (Singly l (suc n) es E N out) (ltb (length out) outputNeeded) _ _
     (λ t. none-singly l (suc n) es E N out used (inr (omega (arith, ltb-true (length out) outputNeeded t))))
     (λ t.
-    one-singly n (λ us m p es′ A B out′ u k. fed-singly n {fs = us} {l = m} p es′ A B out′ u k) o es E N out used h
+    one-singly n (λ past m x es′ A B out′ u k. fed-singly n {p = past} {l = m} x es′ A B out′ u k) o es E N out used h
     (ltb-false (length out) outputNeeded t) (event (l .session) (take 8 es) E N out .answer) _ _ _ _ refl)
 
 pub played-append :
@@ -276,7 +268,7 @@ played-split (u ∷ us) us′ (by-finish {f = f} g p) =
     let x = played-split us us′ p in (theorem.finish f ∷ x .0, x .1, x .2, by-finish g (x .3), x .4, ap (λ (m : List Reply). theorem.finish f ∷ m) (x .5))
 
 -- with other uses, replies and what they lead to
-reached-by :
+pub reached-by :
     {b : List ℕ} {us us′ : List Use} {rs rs′ : List Reply} {l k : Housed} (x : Reached b us rs l) →
     Played (housed (x .begun .session) (x .E) (x .N)) us′ rs′ k →
     Reached b us′ rs′ k
@@ -325,10 +317,10 @@ block {b} {us} {rs} {l} x es E N out used r A B out′ g =
       answered = p .answered;
       listed = p .listed;
       written = p .written;
-      stops = λ z. ends (p .stops z);
+      ends = λ z. at-end (p .ends z);
     }
   where
-    ends : (r .taken ≡ length es / 8) ⊎ (length out < 4 * r .listed + outputNeeded) →
+    at-end : (r .taken ≡ length es / 8) ⊎ (length out < 4 * r .listed + outputNeeded) →
         (length es < 8 * r .taken + 8) ⊎ (length out < 4 * r .listed + outputNeeded)
-    ends (inl e) = inl (omega arith)
-    ends (inr h) = inr h
+    at-end (inl e) = inl (omega arith)
+    at-end (inr h) = inr h

@@ -6,12 +6,14 @@
 use Rattle.promise.specs.Theorem.{Library}
 use Rattle.promise.specs.Theorem.Replies.{begins, promised, same, begin-some, event-some, finish-some, uses-one}
 use Rattle.promise.specs.Theorem.Blocks.{first-part, run-some, use-some, block}
+use Rattle.promise.specs.Theorem.Stop.{ceased}
 
 pub library : Library
 library =
     record {
       begins = begins;
       keeps = λ x. promised x;
+      ceases = λ x t y. ceased x t y;
       blocks = λ x. block x;
       same = same;
       first-part = λ us us′ x. first-part us us′ x;

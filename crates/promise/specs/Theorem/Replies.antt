@@ -1,9 +1,10 @@
 -- The proof of what is promised of begin, event and finish.
 --
---   Kept b es us rs l       what a play from a session after es keeps: l is one after the events accepted by then, the answers are the meaning's, and the
+--   Kept b p us rs l        what a play from a session after the past p keeps: l is one after the past by then, the answers are the meaning's, and the
 --                           records found are those of the nodes handed out
 --   play-kept               it does
 --   reached-kept            so does every play from begin on
+--   reached-of, nodes-listed     so l is one after the past of the uses, and the nodes are those listed
 --   promised                THE REPLIES, THE SESSION AND ITS ROOM are as promised
 --   begins                  so is begin's result
 --   same                    and what a refused event leaves, on any session and room;  event-long: the room is as long as it was
@@ -13,16 +14,18 @@
 use Prim.Native.Nat.{ℕ, _+_, _*_, _≤_, _<_}
 use native.Mathlib.Omega.{arith}
 use mathlib.Core.Logic.{_↔_}
-use mathlib.Core.Path.{_≡_, refl, sym, ap, ap₂, _∙_, subst}
-use mathlib.Core.Bool.{true, false}
+use mathlib.Core.Path.{_≡_, refl, sym, ap, ap₂, _∙_, subst, subst₂}
+use mathlib.Core.Bool.{Bool, true, false}
 use mathlib.Core.List.{List, [], _∷_, _++_, map, flatMap, List·Memᴰ}
-use lib.Dec.{eqb}
+use lib.Dec.{T}
 use lib.ListN.{length, take, drop, length-append, length-drop}
 use lib.Seq.{take-at, drop-at, length-take-le}
 use Rattle.choice.specs.When.{when-true, when-false, when-known, when-either}
 use Rattle.choice.specs.Count.{boolByte-le}
 use Rattle.meaning.specs.Limits.{elementsNeeded, nodesNeeded, outputNeeded}
-use Rattle.meaning.specs.Refusals.{shortOutput, shortRoom}
+use Rattle.meaning.specs.Logic.{is-false}
+use Rattle.meaning.specs.Refusals.{shortOutput, shortRoom, alreadyStopped, stops}
+use Rattle.meaning.specs.Refusals.Laws.{stops-exactly}
 use Rattle.meaning.specs.Query.{Query}
 use Rattle.meaning.specs.Selection.{sure-reading}
 use Rattle.meaning.specs.Explicit.{Selected}
@@ -32,8 +35,9 @@ use Rattle.meaning.specs.Standing.Laws.{Rising}
 use Rattle.meaning.specs.Demands.{list-order, held-order, ruled-out-order, list-explicit, counts-add-up}
 use Rattle.meaning.specs.Stream.{Event, document}
 use Rattle.meaning.specs.Answer as meaning
-use Rattle.meaning.specs.Answer.{Call, tooSmall, answer, after, answers, accepted, handedBy, handedOut}
+use Rattle.meaning.specs.Answer.{Call, Past, going, tooSmall, answer, after, answers, afterAll, handedBy, handedOut}
 use Rattle.meaning.specs.Answer.Laws.{finish-same, handed-listed}
+use Rattle.meaning.specs.Answer.Stop.{Stopping, stopped-exactly}
 use Rattle.query.specs.Answer as checked
 use Rattle.query.specs.Answer.{Owed}
 use Rattle.query.specs.Answer.Laws.{owed-given}
@@ -42,6 +46,7 @@ use Rattle.plan.specs.Planned.{planOf}
 use Rattle.plan_bytes.specs.Kept.{keptIn}
 use Rattle.records.specs.Write.{recordsOf, nodesIn, buffer}
 use Rattle.records.specs.Write.Laws.{length-records, records-append, length-nodes}
+use Rattle.numbers.specs.Numbers.{Said}
 use Rattle.feed.specs.Fed.{Came}
 use Rattle.feed.specs.Steps.{Seat, seat, stepAt, Whole}
 use Rattle.feed.specs.Steps.Laws.{whole-step}
@@ -58,14 +63,14 @@ use Rattle.session.specs.declared.Answer.the-variants.{Refused, Taken}
 use Rattle.session.specs.Begin.{fresh, said, startAnswer, sessionFor, begun, BeginGives}
 use Rattle.session.specs.Begin.Laws.{begin-one}
 use Rattle.session.specs.Event as events
-use Rattle.session.specs.Event.{Done, refused, sessionNumbers, settled, event, EventGives}
-use Rattle.session.specs.Event.Laws.{event-cases, event-is, event-one, finish-one}
+use Rattle.session.specs.Event.{Done, refused, sessionNumbers, stoppedBy, settled, event, EventGives}
+use Rattle.session.specs.Event.Laws.{stopped-other, event-refused, event-cases, event-is, event-one, finish-one}
 use Rattle.session.specs.Run.{Housed, housed}
 use Rattle.session.specs.Told.{told, ended}
 use Rattle.promise.specs.Lending.{SameUsed, leftBy}
-use Rattle.promise.specs.Promise.{Of, room-long, begin-answer, begin-session, begin-of, ruled}
-use Rattle.promise.specs.Promise.{event-answered, event-of, event-written, finish-given, waiting-held, opened-is, handed-is, held-is}
-use Rattle.promise.specs.Theorem.Short.{event-short, event-small}
+use Rattle.promise.specs.Promise.{Of, begin-answer, begin-session, begin-of, ruled, finish-given, waiting-held, opened-is, handed-is, held-is}
+use Rattle.promise.specs.Promise.Event.{room-long, event-answered, event-of, event-written}
+use Rattle.promise.specs.Theorem.Short.{event-short, event-small, event-stopped}
 use Rattle.promise.specs.Theorem.{Use, Reply, stepped, finish, Played, unused, by-event, by-finish, Reached}
 use Rattle.promise.specs.Theorem.{callOf, answerOf, recordsBy, writtenIn, streamOf, nodesOf, Begins, Promised, Same}
 
@@ -94,49 +99,49 @@ unfolding ended handedBy
 finish-none (finish-cases.Refused n) m e = ap handedBy (sym e)
 finish-none (finish-cases.Ended k h) m e = ap handedBy (sym e)
 
-pub record Kept (b : List ℕ) (es : List Event) (us : List Use) (rs : List Reply) (l : Housed) : Type 0 where
-  pub of : Of b (accepted (decode b) es (map callOf us)) l
-  pub answered : map answerOf rs ≡ answers (decode b) es (map callOf us)
-  pub recorded : flatMap writtenIn rs ≡ recordsOf (handedOut (answers (decode b) es (map callOf us)))
+pub record Kept (b : List ℕ) (p : Past) (us : List Use) (rs : List Reply) (l : Housed) : Type 0 where
+  pub of : Of b (afterAll (decode b) p (map callOf us)) l
+  pub answered : map answerOf rs ≡ answers (decode b) p (map callOf us)
+  pub recorded : flatMap writtenIn rs ≡ recordsOf (handedOut (answers (decode b) p (map callOf us)))
 
-pub play-kept : {b : List ℕ} {es : List Event} {l k : Housed} {us : List Use} {rs : List Reply} → Of b es l → Played l us rs k → Kept b es us rs k
-unfolding callOf answerOf writtenIn accepted answers handedOut flatMap
+pub play-kept : {b : List ℕ} {p : Past} {l k : Housed} {us : List Use} {rs : List Reply} → Of b p l → Played l us rs k → Kept b p us rs k
+unfolding callOf answerOf writtenIn afterAll answers handedOut flatMap
 play-kept o unused = record { of = o; answered = refl; recorded = unfold recordsOf in refl }
-play-kept {b} {es} o (by-event {bytes} {E} {N} {out} {E′} {N′} {out′} {r} same g p) =
+play-kept {b} {p = past} o (by-event {bytes} {E} {N} {out} {E′} {N′} {out′} {r} same g p) =
     let c = Call.event bytes (record { out = length out; elements = length E; nodes = length N }) in
-    let e : told (r .answer) out′ ≡ answer (decode b) es c = event-answered o bytes E N out same r E′ N′ out′ g in
+    let e : told (r .answer) out′ ≡ answer (decode b) past c = event-answered o bytes E N out same r E′ N′ out′ g in
     let k = play-kept (event-of o bytes E N out same r E′ N′ out′ g) p in
     record {
       of = k .of;
       answered = ap₂ _∷_ e (k .answered);
       recorded =
-          ap₂ _++_ (told-records (r .answer) (answer (decode b) es c) out out′ e (event-written o bytes E N out same r E′ N′ out′ g)) (k .recorded)
-          ∙ sym (records-append (handedBy (answer (decode b) es c)) _);
+          ap₂ _++_ (told-records (r .answer) (answer (decode b) past c) out out′ e (event-written o bytes E N out same r E′ N′ out′ g)) (k .recorded)
+          ∙ sym (records-append (handedBy (answer (decode b) past c)) _);
     }
-play-kept {b} {es} {l} o (by-finish {f} {us} g p) =
+play-kept {b} {p = past} {l} o (by-finish {f} {us} g p) =
     let e = finish-given o f g in
-    let rest = handedOut (answers (decode b) (after (decode b) es Call.finish) (map callOf us)) in
-    let k = play-kept (subst (λ fs. Of b fs l) (sym (finish-same (decode b) es)) o) p in
+    let rest = handedOut (answers (decode b) (after (decode b) past Call.finish) (map callOf us)) in
+    let k = play-kept (subst (λ x. Of b x l) (sym (finish-same (decode b) past)) o) p in
     record {
       of = k .of;
       answered = ap₂ _∷_ e (k .answered);
-      recorded = k .recorded ∙ ap (λ (ns : List ℕ). recordsOf (ns ++ rest)) (sym (finish-none f (answer (decode b) es Call.finish) e));
+      recorded = k .recorded ∙ ap (λ (ns : List ℕ). recordsOf (ns ++ rest)) (sym (finish-none f (answer (decode b) past Call.finish) e));
     }
 
-pub reached-kept : {b : List ℕ} {us : List Use} {rs : List Reply} {l : Housed} → Reached b us rs l → Kept b [] us rs l
+pub reached-kept : {b : List ℕ} {us : List Use} {rs : List Reply} {l : Housed} → Reached b us rs l → Kept b (going []) us rs l
 reached-kept {b} x = play-kept (begin-of b (x .E) (x .N) (x .begun) (x .bytes) (x .begins) (x .admitted) (x .E) (x .N)) (x .played)
 
--- an event on a session after es
+-- an event that is taken
 pub event-taken :
-    {b : List ℕ} {es : List Event} {l : Housed} → Of b es l → (bytes E N out E′ N′ out′ : List ℕ) (r : Next) (k : ℕ) →
+    {b : List ℕ} {p : Past} {l : Housed} → Of b p l → (bytes E N out E′ N′ out′ : List ℕ) (r : Next) (k : ℕ) →
     (tooSmall (length E) (length N) ≡ false → SameUsed l E N) → EventGives (l .session) bytes E N out r E′ N′ out′ → r .answer ≡ Taken k →
     drop (4 * k) out′ ≡ drop (4 * k) out
 unfolding told buffer
-event-taken {b} {es} o bytes E N out E′ N′ out′ r k same g h =
+event-taken {b} {p} o bytes E N out E′ N′ out′ r k same g h =
     let c = Call.event bytes (record { out = length out; elements = length E; nodes = length N }) in
-    let ns = handedBy (answer (decode b) es c) in
+    let ns = handedBy (answer (decode b) p c) in
     let many : length ns ≡ k =
-    taken-many (answer (decode b) es c) k out′ (ap (λ (y : Answer). told y out′) (sym h) ∙ event-answered o bytes E N out same r E′ N′ out′ g) in
+    taken-many (answer (decode b) p c) k out′ (ap (λ (y : Answer). told y out′) (sym h) ∙ event-answered o bytes E N out same r E′ N′ out′ g) in
     ap (drop (4 * k)) (event-written o bytes E N out same r E′ N′ out′ g)
     ∙ drop-at (recordsOf ns) _ (4 * k) (length-records ns ∙ ap (λ (n : ℕ). 4 * n) many)
     ∙ ap (λ (n : ℕ). drop (4 * n) out) many
@@ -148,37 +153,38 @@ module _ {b : List ℕ} {us : List Use} {rs : List Reply} {l : Housed} (x : Reac
   abbrev es : List Event
   es = streamOf b us
 
-  o : Of b es l
-  o = reached-kept x .of
+  pub reached-of : Of b (afterAll q (going []) (map callOf us)) l
+  reached-of = reached-kept x .of
 
-  handed-out : nodesOf rs ≡ handedOut (answers q [] (map callOf us))
+  handed-out : nodesOf rs ≡ handedOut (answers q (going []) (map callOf us))
   handed-out = ap handedOut (reached-kept x .answered)
 
-  nodes-listed : nodesOf rs ≡ listed q (document es)
+  pub nodes-listed : nodesOf rs ≡ listed q (document es)
   nodes-listed = handed-out ∙ handed-listed q (map callOf us)
 
   pub promised : Promised b us rs l
-  unfolding o
   promised =
-      let ok = ruled o .admitted in
+      let ok = ruled reached-of .admitted in
       record {
         answered = reached-kept x .answered;
-        stream = o .stream;
+        stream = reached-of .stream;
         recorded = reached-kept x .recorded ∙ ap recordsOf (sym handed-out);
         order = subst (Rising 1) (sym nodes-listed) (list-order q (document es));
-        listed = λ n. subst (λ ns. List·Memᴰ n ns ↔ ListedBy q es n) (sym nodes-listed) (listed-exactly q ok es (o .stream) n);
-        held-order = subst (Rising 1) (sym (waiting-held o)) (held-order q (document es));
-        held = λ n. subst (λ ns. List·Memᴰ n ns ↔ HeldBy q es n) (sym (waiting-held o)) (held-exactly q ok es (o .stream) n);
-        opened = opened-is o;
-        handed = handed-is o ∙ ap length (sym nodes-listed);
-        kept = held-is o ∙ ap length (sym (waiting-held o));
+        listed = λ n. subst (λ ns. List·Memᴰ n ns ↔ ListedBy q es n) (sym nodes-listed) (listed-exactly q ok es (reached-of .stream) n);
+        held-order = subst (Rising 1) (sym (waiting-held reached-of)) (held-order q (document es));
+        held = λ n. subst (λ ns. List·Memᴰ n ns ↔ HeldBy q es n) (sym (waiting-held reached-of)) (held-exactly q ok es (reached-of .stream) n);
+        opened = opened-is reached-of;
+        handed = handed-is reached-of ∙ ap length (sym nodes-listed);
+        kept = held-is reached-of ∙ ap length (sym (waiting-held reached-of));
         ruled = ruledOut q (document es);
         ruled-order = ruled-out-order q (document es);
-        ruled-out = ruled-out-exactly q ok es (o .stream);
-        sum = omega (arith, opened-is o, handed-is o, held-is o, counts-add-up q (document es));
+        ruled-out = ruled-out-exactly q ok es (reached-of .stream);
+        sum = omega (arith, opened-is reached-of, handed-is reached-of, held-is reached-of, counts-add-up q (document es));
+        stopped = subst₂ (λ (y : Bool) (given-so : List meaning.Answer). T y ↔ Stopping given-so) (sym (reached-of .stop)) (sym (reached-kept x .answered))
+            (stopped-exactly q (map callOf us));
         whole = λ fin n.
             subst (λ ns. List·Memᴰ n ns ↔ Selected q sure-reading (document es) n) (sym nodes-listed) (list-explicit q ok es fin n);
-        rest-same = λ bytes E N out E′ N′ out′ r k same g h. event-taken o bytes E N out E′ N′ out′ r k same g h;
+        rest-same = λ bytes E N out E′ N′ out′ r k same g h. event-taken reached-of bytes E N out E′ N′ out′ r k same g h;
       }
 
 -- an event on any session and room
@@ -195,10 +201,6 @@ room-beside needed A B long enough = (
 )
 
 module _ (s : Session) (bytes E N out : List ℕ) where
-  -- what comes back of a refused event
-  Back : Done → Type 0
-  Back d = (n : ℕ) → d .answer ≡ Refused n → (d .session ≡ s) × ((d .elements ≡ E) × ((d .nodes ≡ N) × (d .out ≡ out)))
-
   Rooms : Done → Type 0
   Rooms d = SameRoom elementsNeeded (d .elements) E × SameRoom nodesNeeded (d .nodes) N
 
@@ -207,10 +209,6 @@ module _ (s : Session) (bytes E N out : List ℕ) where
 
   abbrev came : Came Seat
   came = stepAt (keptIn (s .kept)) (needed at) bytes out
-
-  back : Back (event s bytes E N out)
-  unfolding event settled Back
-  back = when-either Back _ _ _ (λ n e. let z : _≡_ {A = ℕ} 0 1 = cc in absurd (omega arith)) (λ n e. (refl, (refl, (refl, refl))))
 
   rooms : Rooms (event s bytes E N out)
   unfolding settled Rooms
@@ -223,25 +221,49 @@ module _ (s : Session) (bytes E N out : List ℕ) where
       let longE : length (take elementsNeeded E) ≡ elementsNeeded = length-take-le elementsNeeded E (enough .0) in
       let longN : length (take nodesNeeded N) ≡ nodesNeeded = length-take-le nodesNeeded N (enough .1) in
       let whole : Whole (came .seat) =
-      whole-step (keptIn (s .kept)) (needed at) bytes out (record { elements = longE; nodes = longN; said = boolByte-le (s .ended) }) in
-      when-either Rooms (eqb (came .refusal) 0) _ _ (
+      whole-step (keptIn (s .kept)) (needed at) bytes out (record { elements = longE; nodes = longN; said = said-own }) in (
         room-beside elementsNeeded (came .seat .elements) E (whole .elements) (enough .0),
         room-beside nodesNeeded (came .seat .nodes) N (whole .nodes) (enough .1),
-      ) ((refl, refl), (refl, refl)))))
+      ))))
+    where
+      said-own : Said (sessionNumbers s)
+      said-own = record { ended = boolByte-le (s .ended); stopped = boolByte-le (s .stopped) }
+
+-- what comes back of a refused one
+event-back :
+    (s : Session) (bytes E N out : List ℕ) (r : Next) (E′ N′ out′ : List ℕ) → EventGives s bytes E N out r E′ N′ out′ →
+    (n : ℕ) → r .answer ≡ Refused n →
+    _≡_ {A = Done} (record { answer = r .answer; session = r .session; elements = E′; nodes = N′; out = out′ }) (refused n (stoppedBy n s) E N out)
+event-back s bytes E N out r E′ N′ out′ g n e =
+    let is = event-is s bytes E N out r E′ N′ out′ g in
+    is ∙ event-refused s bytes E N out n (sym (ap (λ (d : Done). d .answer) is) ∙ e)
+
+stops-not : (n : ℕ) → ((2 ≤ n) × (n ≤ 7) → ⊥) → stops n ≡ false
+stops-not n f = is-false (stops n) (λ t. f (stops-exactly n .0 t))
 
 pub same :
     (s : Session) (bytes E N out : List ℕ) (r : Next) (E′ N′ out′ : List ℕ) → EventGives s bytes E N out r E′ N′ out′ → Same s bytes E N out r E′ N′ out′
-unfolding Back Rooms
+unfolding Rooms
 same s bytes E N out r E′ N′ out′ g =
     let is = event-is s bytes E N out r E′ N′ out′ g in
     let kept = subst (Rooms s bytes E N out) (sym is) (rooms s bytes E N out) in
+    let back = event-back s bytes E N out r E′ N′ out′ g in
     record {
-      refused-same = subst (Back s bytes E N out) (sym is) (back s bytes E N out);
+      refused-same = λ n e. (
+        ap (λ (d : Done). d .session) (back n e),
+        (ap (λ (d : Done). d .elements) (back n e), (ap (λ (d : Done). d .nodes) (back n e), ap (λ (d : Done). d .out) (back n e))),
+      );
+      others-same = λ n e f. ap (λ (d : Done). d .session) (back n e) ∙ stopped-other n s (stops-not n f);
       past-same = (kept .0 .0, kept .1 .0);
       short-exactly = subst (λ (d : Done). (d .answer ≡ Refused shortOutput) ↔ (length out < outputNeeded)) (sym is) (event-short s bytes E N out);
       small-exactly =
           subst (λ (d : Done). (d .answer ≡ Refused shortRoom) ↔ ((outputNeeded ≤ length out) × (tooSmall (length E) (length N) ≡ true))) (sym is)
           (event-small s bytes E N out);
+      stopped-exactly =
+          subst
+          (λ (d : Done).
+          (d .answer ≡ Refused alreadyStopped) ↔ ((outputNeeded ≤ length out) × (tooSmall (length E) (length N) ≡ false) × T (s .stopped)))
+          (sym is) (event-stopped s bytes E N out);
     }
 
 pub event-long :

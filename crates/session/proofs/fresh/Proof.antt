@@ -13,7 +13,8 @@ pack-requires c κs = search needs
 
 returns : tie.Need-returns
 unfolding fresh
-returns c = ap (λ (k : List ℕ). record { kept = k; depth = 0; held = 0; opened = 0; handed = 0; ended = false }) (c .pack .ensures)
+returns c =
+    ap (λ (k : List ℕ). record { kept = k; depth = 0; held = 0; opened = 0; handed = 0; ended = false; stopped = false }) (c .pack .ensures)
 
 pub fresh-spec : {M : Type 1} → statement M
 fresh-spec = tie.close (tie.spec pack-requires returns)

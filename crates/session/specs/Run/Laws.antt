@@ -10,15 +10,15 @@
 -- What is large is given explicitly. Assumes nothing.
 use Prim.Native.Nat.{ℕ, zero, suc, _+_, _-_, _*_, _/_, _≤_, _<_}
 use native.Mathlib.Omega.{arith}
-use mathlib.Core.Path.{_≡_, refl, sym, ap, _∙_}
-use mathlib.Core.Bool.{Bool, true}
+use mathlib.Core.Path.{_≡_, refl, sym, ap, ap₂, _∙_}
+use mathlib.Core.Bool.{Bool, true, false}
 use mathlib.Core.List.{List, _++_}
 use lib.Dec.{eqb}
 use lib.ListN.{length, take, drop, take-append-drop}
 use lib.Seq.{length-take-le}
 use borrow.Author.Tests.{eqb-true, eqb-false, ne-eqb, lt-ltb, le-ltb}
-use Rattle.choice.specs.When.{when, when-true, when-false, when-yes, when-no, when-known}
-use Rattle.choice.specs.Count.{boolByte-le, boolByte-read}
+use Rattle.choice.specs.When.{when, when-true, when-false, when-yes, when-no}
+use Rattle.choice.specs.Count.{boolByte-le}
 use Rattle.meaning.specs.Refusals.{shortRoom}
 use Rattle.meaning.specs.Answer.{tooSmall}
 use Rattle.meaning.specs.Limits.{outputNeeded, elementsNeeded, nodesNeeded}
@@ -27,23 +27,32 @@ use Rattle.plan.specs.Plan.{Plan}
 use Rattle.plan_bytes.specs.Kept.{keptIn}
 use Rattle.feed.specs.Fed.{Came, Fed, one, andThen, fed}
 use Rattle.feed.specs.Fed.Across.{across, allAcross, Alike, fed-across}
-use Rattle.feed.specs.Steps.{Seat, seat, came, stepAt, Whole}
+use Rattle.feed.specs.Steps.{Seat, seat, stepAt, Whole}
 use Rattle.feed.specs.Steps.Laws.{refused-at, whole-step}
 use Rattle.offer.specs.Offer.{longer, offered}
 use Rattle.offer.specs.Offer.Laws.{offered-long}
 use Rattle.session.specs.declared.Session.{Session}
+use Rattle.session.specs.declared.Answer.the-variants.{Refused, Taken}
 use Rattle.session.specs.declared.Ran.{Ran}
-use Rattle.session.specs.Event.{Done, sessionNumbers, withNumbers, settled, event}
-use Rattle.session.specs.Event.Laws.{there, event-cases}
-use Rattle.lent.specs.Lent.{refuseLent}
-use Rattle.lent.specs.Lent.Laws.{lent-short}
+use Rattle.session.specs.Event.{Done, sessionNumbers, withNumbers, answerBy, settled, event}
+use Rattle.session.specs.Event.Laws.{there, again, event-cases}
+use Rattle.lent.specs.Lent.{refuseRoom}
+use Rattle.lent.specs.Lent.Laws.{room-short}
 use Rattle.session.specs.Run.{Housed, housed, refusalOf, listedOf, cameAs, eventAt, ran, runWithin, RunGives}
 
--- the numbers there and back
+-- an event's answer says what it came to
 
-again : (s : Session) → withNumbers s (sessionNumbers s) ≡ s
-again s =
-    ap (λ (b : Bool). record { kept = s .kept; depth = s .depth; held = s .held; opened = s .opened; handed = s .handed; ended = b }) (boolByte-read (s .ended))
+refusal-by : (b : Bool) (c : Came Seat) → eqb (c .refusal) 0 ≡ b → refusalOf (when b (Taken (c .listed)) (Refused (c .refusal))) ≡ c .refusal
+unfolding when refusalOf
+refusal-by true c e = sym (eqb-true _ _ e)
+refusal-by false c e = refl
+
+listed-by :
+    (b : Bool) (c : Came Seat) → eqb (c .refusal) 0 ≡ b → ((c .refusal ≡ 0 → ⊥) → c .listed ≡ 0) →
+    listedOf (when b (Taken (c .listed)) (Refused (c .refusal))) ≡ c .listed
+unfolding when listedOf
+listed-by true c e none = refl
+listed-by false c e none = sym (none (eqb-false _ _ e))
 
 -- an event on what is seen is a step
 
@@ -57,24 +66,19 @@ module _ (s : Session) (A B : List ℕ) (t : Seat) (bytes out : List ℕ) (w : W
   abbrev now : Session
   now = withNumbers s (t .numbers)
 
-  abbrev event-at : Came Seat → Done
-  event-at c = settled now (t .elements ++ A) (t .nodes ++ B) out c
-
   settled-is :
-      (c : Came Seat) → ((c .refusal ≡ 0 → ⊥) → c ≡ came (c .refusal) 0 t out) →
-      cameAs (event-at (across (longer A B) c)) ≡ across (seen s A B) c
-  unfolding settled refusalOf listedOf
-  settled-is c kept =
-      when-known (λ (d : Done). cameAs d ≡ across (seen s A B) c) (eqb (c .refusal) 0) _ _
-      (λ e. ap (λ (r : ℕ). record { refusal = r; listed = c .listed; seat = seen s A B (c .seat); out = c .out }) (sym (eqb-true _ _ e)))
-      (λ e. sym (ap (λ (y : Came Seat). across (seen s A B) y) (kept (eqb-false _ _ e))))
+      (c : Came Seat) → ((c .refusal ≡ 0 → ⊥) → c .listed ≡ 0) → cameAs (settled now (across (longer A B) c)) ≡ across (seen s A B) c
+  unfolding settled answerBy
+  settled-is c none =
+      ap₂ (λ (r l : ℕ). record { refusal = r; listed = l; seat = seen s A B (c .seat); out = c .out }) (refusal-by (eqb (c .refusal) 0) c refl)
+      (listed-by (eqb (c .refusal) 0) c refl none)
 
   event-seen : outputNeeded ≤ length out → eventAt (seen s A B t) bytes out ≡ across (seen s A B) (stepAt P t bytes out)
   unfolding eventAt event
   event-seen h =
-      ap (λ (n : Numbers). cameAs (event-at (offered P (seat n (t .elements ++ A) (t .nodes ++ B)) bytes out))) (there s (t .numbers) (w .said))
-      ∙ ap (λ (c : Came Seat). cameAs (event-at c)) (offered-long P t A B bytes out (w .elements) (w .nodes) h)
-      ∙ settled-is (stepAt P t bytes out) (refused-at P t bytes out)
+      ap (λ (n : Numbers). cameAs (settled now (offered P (seat n (t .elements ++ A) (t .nodes ++ B)) bytes out))) (there s (t .numbers) (w .said))
+      ∙ ap (λ (c : Came Seat). cameAs (settled now c)) (offered-long P t A B bytes out (w .elements) (w .nodes) h)
+      ∙ settled-is (stepAt P t bytes out) (λ f. ap (λ (c : Came Seat). c .listed) (refused-at P t bytes out f))
 
 module _ (s : Session) (A B : List ℕ) where
   steps-alike : Alike (seen s A B) eventAt (stepAt (keptIn (s .kept))) Whole
@@ -138,16 +142,16 @@ module _ (s : Session) (es E N out : List ℕ) where
       ∙ when-false _ _ _ (ne-eqb shortRoom 0 (λ z. omega arith))))
 
   pub run-small :
-      (refusal : ℕ) (r : Ran) → r ≡ stayed s refusal → refusal ≡ refuseLent (length out) (length E) (length N) → (refusal ≡ 0 → ⊥) → 8 ≤ length es →
+      (refusal : ℕ) (r : Ran) → r ≡ stayed s refusal → refusal ≡ refuseRoom (length E) (length N) → (refusal ≡ 0 → ⊥) → 8 ≤ length es →
       outputNeeded ≤ length out → Gives r
   run-small refusal r e k f l h =
-      let p = lent-short (length E) (length N) refusal (length out) k f h in
+      let p = room-short (length E) (length N) refusal k f in
       still shortRoom r (e ∙ ap (stayed s) (p .0)) (small (length es / 8) (omega arith) h (p .1))
 
 -- any other block: k and l are how long the parts of the room are that were lent on
 
 whole-at : (s : Session) (E N : List ℕ) → length E ≡ elementsNeeded → length N ≡ nodesNeeded → Whole (seat (sessionNumbers s) E N)
-whole-at s E N e f = record { elements = e; nodes = f; said = boolByte-le (s .ended) }
+whole-at s E N e f = record { elements = e; nodes = f; said = record { ended = boolByte-le (s .ended); stopped = boolByte-le (s .stopped) } }
 
 module _ (s : Session) (es E N out : List ℕ) (k l : ℕ) (ek : elementsNeeded ≡ k) (el : nodesNeeded ≡ l) (longE : k ≤ length E) (longN : l ≤ length N) where
   start-is : housed s E N ≡ seen s (drop k E) (drop l N) (seat (sessionNumbers s) (take k E) (take l N))

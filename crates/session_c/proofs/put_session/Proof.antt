@@ -26,18 +26,21 @@ part-put-numbers-end c = search needs
 cast-put-numbers : tie.Need-cast-put-numbers
 cast-put-numbers c = search needs
 
+cast-put-numbers-2 : tie.Need-cast-put-numbers-2
+cast-put-numbers-2 c = search needs
+
 put-numbers-requires : tie.Need-put-numbers-requires
-put-numbers-requires c κs = let at-copy = c .before .before .before .before in
+put-numbers-requires c κs = let at-copy = c .before .before .before .before .before in
     let start = at-copy .before .before .before .before .before in
     let copied = at-copy .copy .last .1 .0 in
-    let l : length copied ≡ sessionRoom = omega (arith, c .before .before .before .room .given, start .pre) in rest-room copied l
+    let l : length copied ≡ sessionRoom = omega (arith, c .before .before .before .before .room .given, start .pre) in rest-room copied l
 
 same-length : tie.Need-same-length
 same-length c = search needs
 
 returns : tie.Need-returns
 returns c = let at-put = c .before .before in
-    let at-copy = at-put .before .before .before .before .before in
+    let at-copy = at-put .before .before .before .before .before .before in
     let start = at-copy .before .before .before .before .before in
     put-parts (start .args .session) (start .args .room .now) _ _ (search needs) (at-copy .copy .ensures .1) (at-put .put-numbers .ensures)
 
@@ -51,6 +54,7 @@ put-session-spec =
     part-put-numbers-start
     part-put-numbers-end
     cast-put-numbers
+    cast-put-numbers-2
     put-numbers-requires
     same-length
     returns)

@@ -78,7 +78,7 @@ module _ (S es E N out C : List ℕ) where
 
     pub runs-parts :
         (s : Session) (d : Ran) (S′ E′ N′ out′ C′ : List ℕ) → length C ≡ countsRoom → s ≡ sessionIn S →
-        RunGives s es E N out d E′ N′ out′ → S′ ≡ movedBy (d .taken) (d .session) S → C′ ≡ countBytes (d .taken) (d .listed) →
+        RunGives s es E N out d E′ N′ out′ → S′ ≡ movedBy (d .taken) (d .refusal) (d .session) S → C′ ≡ countBytes (d .taken) (d .listed) →
         ExportRuns S es E N out C (d .refusal) S′ E′ N′ out′ C′
     unfolding blocked
     runs-parts s d S′ E′ N′ out′ C′ wide e g eS eC =

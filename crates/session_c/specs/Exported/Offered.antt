@@ -1,38 +1,36 @@
--- That an event on the session's bytes is one on the session in them. The numbers there may say by any value whether the document element has been closed, a
--- session says it by a test: an event asks no more (crate offer, Offer.Ended).
+-- That an event on the session's bytes is one on the session in them. The numbers there may say by any value whether the document element has been closed and
+-- whether the session is stopped, a session says it by tests: an event asks no more (crate offer, Offer.Alike).
 --
 --   eventNumber refusal listed      the answer of an event that came to this, as a number
 --   takes-parts                     what `offer` gives on the bytes is what is owed of the session's event
 --
 -- What is large is given explicitly. Assumes nothing.
-use Prim.Native.Nat.{ℕ, _+_, _-_, _*_, _≤_}
-use native.Mathlib.Omega.{arith}
+use Prim.Native.Nat.{ℕ, _-_, _*_}
 use mathlib.Core.Path.{_≡_, refl, sym, ap, ap₂, subst, _∙_}
 use mathlib.Core.Bool.{Bool, true, false, not}
-use mathlib.Core.List.{List, [], _∷_, _++_}
+use mathlib.Core.List.{List, _++_}
 use mir.Val.{boolByte}
 use lib.Dec.{eqb}
-use lib.ListN.{length, take, drop, take-append-drop, length-drop}
-use lib.Seq.{getD-drop}
+use lib.ListN.{length, take, drop}
 use borrow.Author.Tests.{eqb-true, eqb-false, eq-eqb, ne-eqb}
-use Rattle.choice.specs.When.{when, when-true, when-yes, when-no}
+use Rattle.choice.specs.When.{when, when-true, when-false}
 use Rattle.choice.specs.Count.{boolByte-le}
 use Rattle.words.specs.Words.{bytesOf, Bytes}
 use Rattle.plan.specs.Plan.{Plan}
-use Rattle.numbers.specs.Numbers.{Numbers, numbersRoom, numbersIn}
-use Rattle.numbers.specs.Numbers.Laws as numbers
+use Rattle.numbers.specs.Numbers.{Numbers, Said, numbersRoom, numbersIn}
 use Rattle.plan_bytes.specs.Kept.{planRoom, keptIn}
 use Rattle.feed.specs.Fed.{Came}
-use Rattle.feed.specs.Steps.{Seat, seat, came}
+use Rattle.feed.specs.Steps.{Seat, seat, came, stoppedAt}
 use Rattle.offer.specs.Offer.{offered}
 use Rattle.offer.specs.Offer.Laws.{offered-refused}
-use Rattle.offer.specs.Offer.Ended.{offered-said, offered-alike}
+use Rattle.offer.specs.Offer.Alike.{offered-said, offered-alike}
 use Rattle.session.specs.declared.Session.{Session}
-use Rattle.session.specs.declared.Answer.the-variants.{Taken}
-use Rattle.session.specs.Event.{refused, sessionNumbers, withNumbers, settled, event}
-use Rattle.session.specs.Event.Laws.{there}
-use Rattle.session_c.specs.Laid.{sessionRoom, sessionOf, sessionIn, sessionBytes}
-use Rattle.session_c.specs.Laid.Laws.{plan-room, room-is, numbers-laid, rest-all, kept-all, back-all, back-bytes}
+use Rattle.session.specs.declared.Answer.{Answer}
+use Rattle.session.specs.declared.Answer.the-variants.{Refused, Taken}
+use Rattle.session.specs.Event.{sessionNumbers, withNumbers, answerBy, settled, event}
+use Rattle.session.specs.Event.Laws.{there, event-refused}
+use Rattle.session_c.specs.Laid.{sessionRoom, sessionOf, sessionIn, sessionBytes, markedBytes}
+use Rattle.session_c.specs.Laid.Laws.{six, numbers-laid, rest-all, kept-all, back-all, back-bytes, marked-laid}
 use Rattle.session_c.specs.Exported.{Took, numberOf, laidBy, tookWith, took, ExportTakes}
 
 unfoldable pub eventNumber : ℕ → ℕ → ℕ
@@ -60,17 +58,13 @@ module _ (S bytes E N out : List ℕ) (long : length S ≡ sessionRoom) (bytes-S
   on-session = offered P (seat (sessionNumbers s) E N) bytes out
 
   alike : (on-session .refusal ≡ on-bytes .refusal) × (on-bytes .refusal ≡ 0 → on-session ≡ on-bytes)
-  alike = offered-alike P n (boolByte (not (eqb (n .ended) 0))) E N bytes out (bit-zero (eqb (n .ended) 0))
+  alike =
+      offered-alike P n (boolByte (not (eqb (n .ended) 0))) (boolByte (not (eqb (n .stopped) 0))) E N bytes out (bit-zero (eqb (n .ended) 0))
+      (bit-zero (eqb (n .stopped) 0))
 
-  took-is : took S bytes E N out ≡ tookWith S (settled s E N out on-session)
-  unfolding took event sessionIn
+  took-is : took S bytes E N out ≡ tookWith S (event s bytes E N out)
+  unfolding took sessionIn
   took-is = when-true _ _ _ (eq-eqb _ _ long)
-
-  rest-long : length (drop planRoom S) ≡ numbersRoom
-  rest-long = omega (arith, length-drop planRoom S, plan-room, numbers.room-is, room-is, long)
-
-  rest-bytes : Bytes (drop planRoom S)
-  rest-bytes i = omega (arith, getD-drop planRoom S i 0, bytes-S (planRoom + i))
 
   -- the bytes of the numbers on return
   module _ (refusal listed : ℕ) (nums E′ N′ out′ : List ℕ) (long-n : length nums ≡ numbersRoom) (bytes-n : Bytes nums)
@@ -81,44 +75,46 @@ module _ (S bytes E N out : List ℕ) (long : length S ≡ sessionRoom) (bytes-S
     refusal-is : refusal ≡ on-bytes .refusal
     refusal-is = ap (λ (c : Came Seat). c .refusal) given
 
-    refused-took : (refusal ≡ 0 → ⊥) → result refusal ≡ tookWith S (settled s E N out on-session)
-    unfolding settled numberOf laidBy
-    refused-took f =
-        let r : refusal ≡ on-session .refusal = refusal-is ∙ sym (alike .0) in
-        let e = given ∙ offered-refused P (seat n E N) bytes out (λ z. f (refusal-is ∙ z)) in
-        let same : nums ≡ drop planRoom S =
-        numbers.numbers-same nums (drop planRoom S) long-n rest-long bytes-n rest-bytes (ap (λ (c : Came Seat). c .seat .numbers) e) in
-        as-it-was r (ap (λ (x : List ℕ). take planRoom S ++ x) same ∙ take-append-drop planRoom S) (ap (λ (c : Came Seat). c .seat .elements) e)
-        (ap (λ (c : Came Seat). c .seat .nodes) e) (ap (λ (c : Came Seat). c .out) e)
-        ∙ ap (tookWith S) (when-no _ (refused (on-session .refusal) s E N out) _ _ (ne-eqb (on-session .refusal) 0 (λ z. f (r ∙ z))) refl)
-      where
-        as-it-was : {k k′ : ℕ} {A A′ B B′ C C′ D D′ : List ℕ} → k ≡ k′ → A ≡ A′ → B ≡ B′ → C ≡ C′ → D ≡ D′ →
-            _≡_ {A = Took} (record { number = k; session = A; elements = B; nodes = C; out = D })
-            (record { number = k′; session = A′; elements = B′; nodes = C′; out = D′ })
-        as-it-was p a b c d = λ i. record { number = p i; session = a i; elements = b i; nodes = c i; out = d i }
+    same-answer : event s bytes E N out .answer ≡ answerBy refusal (on-session .listed)
+    unfolding event settled
+    same-answer = ap (λ (k : ℕ). answerBy k (on-session .listed)) (alike .0 ∙ sym refusal-is)
 
-    laid-is : numbersIn nums .ended ≤ 1 → take planRoom S ++ nums ≡ sessionBytes (withNumbers s (numbersIn nums))
+    refused-took : (refusal ≡ 0 → ⊥) → result refusal ≡ tookWith S (event s bytes E N out)
+    unfolding answerBy numberOf laidBy
+    refused-took f =
+        let e = given ∙ offered-refused P (seat n E N) bytes out (λ z. f (refusal-is ∙ z))
+        ∙ ap (λ (k : ℕ). came k 0 (stoppedAt k (seat n E N)) out) (sym refusal-is) in
+        let laid : take planRoom S ++ nums ≡ markedBytes refusal S =
+        marked-laid S long bytes-S refusal nums long-n bytes-n (ap (λ (c : Came Seat). c .seat .numbers) e) in
+        as-it-was laid (ap (λ (c : Came Seat). c .seat .elements) e) (ap (λ (c : Came Seat). c .seat .nodes) e) (ap (λ (c : Came Seat). c .out) e)
+        ∙ ap (tookWith S)
+        (sym (event-refused s bytes E N out refusal (same-answer ∙ when-false (eqb refusal 0) _ (Refused refusal) (ne-eqb refusal 0 f))))
+      where
+        as-it-was : {A A′ B B′ C C′ D D′ : List ℕ} → A ≡ A′ → B ≡ B′ → C ≡ C′ → D ≡ D′ →
+            _≡_ {A = Took} (record { number = refusal; session = A; elements = B; nodes = C; out = D })
+            (record { number = refusal; session = A′; elements = B′; nodes = C′; out = D′ })
+        as-it-was a b c d = λ i. record { number = refusal; session = a i; elements = b i; nodes = c i; out = d i }
+
+    laid-is : Said (numbersIn nums) → take planRoom S ++ nums ≡ sessionBytes (withNumbers s (numbersIn nums))
     unfolding sessionBytes
     laid-is said =
-        let m : Numbers = numbersIn nums in
         ap (λ (x : List ℕ). take planRoom S ++ x)
-        (numbers-laid nums (m .depth) (m .held) (m .opened) (m .handed) (m .ended) long-n bytes-n refl
-        ∙ ap (λ (x : Numbers). bytesOf (x .depth ∷ x .held ∷ x .opened ∷ x .handed ∷ x .ended ∷ [])) (sym (there s m said)))
+        (numbers-laid nums (numbersIn nums) long-n bytes-n refl ∙ ap (λ (x : Numbers). bytesOf (six x)) (sym (there s (numbersIn nums) said)))
 
-    taken-took : refusal ≡ 0 → result (256 * listed) ≡ tookWith S (settled s E N out on-session)
-    unfolding settled numberOf laidBy
+    taken-took : refusal ≡ 0 → result (256 * listed) ≡ tookWith S (event s bytes E N out)
+    unfolding event settled answerBy numberOf laidBy
     taken-took z =
         let e : on-session ≡ came refusal listed (seat (numbersIn nums) E′ N′) out′ = alike .1 (sym refusal-is ∙ z) ∙ sym given in
-        let said : numbersIn nums .ended ≤ 1 =
-        subst (λ (c : Came Seat). c .seat .numbers .ended ≤ 1) e
-        (offered-said P (seat (sessionNumbers s) E N) bytes out (boolByte-le (s .ended))) in
+        let said : Said (numbersIn nums) =
+        subst (λ (c : Came Seat). Said (c .seat .numbers)) e
+        (offered-said P (seat (sessionNumbers s) E N) bytes out (record { ended = boolByte-le (s .ended); stopped = boolByte-le (s .stopped) })) in
         ap (λ (x : List ℕ). record { number = 256 * listed; session = x; elements = E′; nodes = N′; out = out′ }) (laid-is said)
         ∙ ap (tookWith S)
-        (when-yes _ (record { answer = Taken listed; session = withNumbers s (numbersIn nums); elements = E′; nodes = N′; out = out′ }) _ _
-        (eq-eqb refusal 0 z) refl
-        ∙ ap (settled s E N out) (sym e))
+        (ap (λ (a : Answer). record { answer = a; session = withNumbers s (numbersIn nums); elements = E′; nodes = N′; out = out′ })
+        (sym (when-true (eqb refusal 0) (Taken listed) _ (eq-eqb refusal 0 z)))
+        ∙ ap (settled s) (sym e))
 
-    either : (b : Bool) → eqb refusal 0 ≡ b → result (when b (256 * listed) refusal) ≡ tookWith S (settled s E N out on-session)
+    either : (b : Bool) → eqb refusal 0 ≡ b → result (when b (256 * listed) refusal) ≡ tookWith S (event s bytes E N out)
     unfolding when
     either true e = taken-took (eqb-true _ _ e)
     either false e = refused-took (eqb-false _ _ e)

@@ -8,6 +8,8 @@
 --   back-all, back-bytes      the session's bytes when the rest is given back with other numbers;  these are bytes
 --   read-parts           what is kept, copied, and the numbers in the rest are the session in the bytes
 --   session-read         a session laid in bytes is read again as it was
+--   marked-laid          numbers after a refusal in the place of the rest are the session's bytes after it
+--   marked-parts         the same, by the rest as it is given back
 --   put-parts            what is kept, copied over the bytes, and then the numbers in the place of the rest are the bytes of the session
 --   counts-put           two counts written by halves
 --
@@ -15,28 +17,30 @@
 use Prim.Native.Nat.{ℕ, zero, suc, _+_, _-_, _/_, _%_, _≤_, _<_}
 use native.Mathlib.Omega.{arith}
 use mathlib.Core.Path.{_≡_, refl, sym, ap, ap₂, subst, _∙_}
-use mathlib.Core.Bool.{Bool, not}
-use mathlib.Core.List.{List, [], _∷_, _++_, append-nil}
+use mathlib.Core.Bool.{Bool, true, false}
+use mathlib.Core.List.{List, [], _∷_, _++_, append-nil, append-assoc}
 use mir.Val.{boolByte}
-use lib.Dec.{eqb}
-use lib.ListN.{length, getD, set, take, drop, length-drop, drop-of-length-le}
-use lib.Seq.{length-take-le, take-all, take-length, take-at, drop-at, getD-append-add}
+use lib.ListN.{length, getD, set, take, drop, take-append-drop, length-drop, drop-of-length-le}
+use lib.Seq.{length-take-le, take-all, take-length, take-at, drop-at, take-append-add, getD-append-add, getD-drop}
+use Rattle.choice.specs.When.{when}
 use Rattle.choice.specs.Count.{boolByte-le, boolByte-read}
+use Rattle.meaning.specs.Refusals.{stops}
 use Rattle.words.specs.Words.{words, bytesOf, Bytes}
 use Rattle.words.specs.Words.Laws.{words-length, bytes-words, words-bytes, bytes-length}
 use Rattle.words.specs.Rows.{rows, is-rows}
 use Rattle.words.specs.Records.{recordsIn}
-use Rattle.numbers.specs.Numbers.{Numbers, numbersRoom, recordIn, numbersIn, numbersOf}
+use Rattle.numbers.specs.Numbers.{Numbers, numbersRoom, recordIn, numbersIn, numbersOf, withStop}
 use Rattle.numbers.specs.Numbers.Laws as numbers
+use Rattle.stop.specs.Stop.{markedBy}
 use Rattle.plan_bytes.specs.Kept.{planRoom}
 use Rattle.session.specs.declared.Session.{Session}
-use Rattle.session_c.specs.Laid.{sessionRoom, sessionOf, sessionIn, sessionBytes, countsRoom, countBytes}
+use Rattle.session_c.specs.Laid.{sessionRoom, sessionOf, sessionIn, sessionBytes, markedBytes, countsRoom, countBytes}
 
 pub plan-room : planRoom ≡ 288
 unfolding planRoom
 plan-room = refl
 
-pub room-is : sessionRoom ≡ 308
+pub room-is : sessionRoom ≡ 312
 unfolding sessionRoom
 room-is = omega (arith, plan-room, numbers.room-is)
 
@@ -46,25 +50,24 @@ counts-room = refl
 
 -- the numbers
 
-abbrev five : Numbers → List ℕ
-five n = n .depth ∷ n .held ∷ n .opened ∷ n .handed ∷ n .ended ∷ []
+abbrev pub six : Numbers → List ℕ
+six n = n .depth ∷ n .held ∷ n .opened ∷ n .handed ∷ n .ended ∷ n .stopped ∷ []
 
-five-words : (bs : List ℕ) → length bs ≡ numbersRoom → words bs ≡ five (numbersIn bs)
+six-words : (bs : List ℕ) → length bs ≡ numbersRoom → words bs ≡ six (numbersIn bs)
 unfolding recordIn numbersIn recordsIn rows
-five-words bs l = is-rows 5 (λ i. getD (words bs) i 0) 0 (words bs) (words-length 5 bs (omega (arith, numbers.room-is))) (λ i h. refl)
+six-words bs l = is-rows 6 (λ i. getD (words bs) i 0) 0 (words bs) (words-length 6 bs (omega (arith, numbers.room-is))) (λ i h. refl)
 
 pub numbers-laid :
-    (bs : List ℕ) (depth held opened handed ended : ℕ) → length bs ≡ numbersRoom → Bytes bs →
-    numbersIn bs ≡ numbersOf depth held opened handed ended → bs ≡ bytesOf (depth ∷ held ∷ opened ∷ handed ∷ ended ∷ [])
-numbers-laid bs depth held opened handed ended l h e =
-    sym (bytes-words 5 bs (omega (arith, numbers.room-is)) h) ∙ ap bytesOf (five-words bs l ∙ ap five e)
+    (bs : List ℕ) (n : Numbers) → length bs ≡ numbersRoom → Bytes bs → numbersIn bs ≡ n → bs ≡ bytesOf (six n)
+numbers-laid bs n l h e =
+    sym (bytes-words 6 bs (omega (arith, numbers.room-is)) h) ∙ ap bytesOf (six-words bs l ∙ ap six e)
 
 pub of-parts :
-    (kept : List ℕ) (n : Numbers) (depth held opened handed ended : ℕ) → depth ≡ n .depth → held ≡ n .held → opened ≡ n .opened →
-    handed ≡ n .handed → ended ≡ n .ended →
-    _≡_ {A = Session} (record { kept = kept; depth = depth; held = held; opened = opened; handed = handed; ended = not (eqb ended 0) }) (sessionOf kept n)
-of-parts kept n depth held opened handed ended e₁ e₂ e₃ e₄ e₅ =
-    λ i. record { kept = kept; depth = e₁ i; held = e₂ i; opened = e₃ i; handed = e₄ i; ended = not (eqb (e₅ i) 0) }
+    (kept : List ℕ) (n : Numbers) (depth held opened handed ended stopped : ℕ) → depth ≡ n .depth → held ≡ n .held → opened ≡ n .opened →
+    handed ≡ n .handed → ended ≡ n .ended → stopped ≡ n .stopped →
+    sessionOf kept (numbersOf depth held opened handed ended stopped) ≡ sessionOf kept n
+of-parts kept n depth held opened handed ended stopped e₁ e₂ e₃ e₄ e₅ e₆ =
+    λ i. sessionOf kept (numbersOf (e₁ i) (e₂ i) (e₃ i) (e₄ i) (e₅ i) (e₆ i))
 
 -- the session in bytes
 
@@ -104,11 +107,61 @@ module _ (S : List ℕ) (long : length S ≡ sessionRoom) where
         (ap (λ (x : List ℕ). getD x (length (take planRoom S) + i) 0) back-all ∙ getD-append-add (take planRoom S) nums i 0)
         (h (length (take planRoom S) + i))
 
+-- after a refusal
+
+-- the numbers nums, of which all but the sixth are those of bs, in bytes
+six-stopped : (bs : List ℕ) (n : Numbers) → bs ≡ bytesOf (six n) → bytesOf (six (withStop 1 n)) ≡ take 20 bs ++ bytesOf (1 ∷ [])
+unfolding bytesOf
+six-stopped bs n e = ap (λ (x : List ℕ). take 20 x ++ bytesOf (1 ∷ [])) (sym e)
+
+module _ (S : List ℕ) (long : length S ≡ sessionRoom) (bytes-S : Bytes S) where
+  pub rest-long : length (drop planRoom S) ≡ numbersRoom
+  rest-long = omega (arith, length-drop planRoom S, plan-room, numbers.room-is, room-is, long)
+
+  pub rest-bytes : Bytes (drop planRoom S)
+  rest-bytes i = omega (arith, getD-drop planRoom S i 0, bytes-S (planRoom + i))
+
+  stopped-front : take planRoom S ++ take 20 (drop planRoom S) ≡ take (planRoom + 20) S
+  stopped-front =
+      let l : length (take planRoom S) ≡ planRoom = length-take-le planRoom S (omega (arith, plan-room, room-is)) in
+      sym (take-append-add (take planRoom S) (drop planRoom S) 20)
+      ∙ ap₂ (λ (k : ℕ) (x : List ℕ). take (k + 20) x) l (take-append-drop planRoom S)
+
+  marked-by :
+      (b : Bool) (nums : List ℕ) → length nums ≡ numbersRoom → Bytes nums →
+      numbersIn nums ≡ when b (withStop 1 (numbersIn (drop planRoom S))) (numbersIn (drop planRoom S)) →
+      take planRoom S ++ nums ≡ when b (take (planRoom + 20) S ++ bytesOf (1 ∷ [])) S
+  unfolding when
+  marked-by true nums ln bn e =
+      ap (λ (x : List ℕ). take planRoom S ++ x)
+      (numbers-laid nums _ ln bn e
+      ∙ six-stopped (drop planRoom S) (numbersIn (drop planRoom S)) (numbers-laid (drop planRoom S) _ rest-long rest-bytes refl))
+      ∙ sym (append-assoc (take planRoom S) (take 20 (drop planRoom S)) (bytesOf (1 ∷ [])))
+      ∙ ap (_++ bytesOf (1 ∷ [])) stopped-front
+  marked-by false nums ln bn e =
+      ap (λ (x : List ℕ). take planRoom S ++ x) (numbers.numbers-same nums (drop planRoom S) ln rest-long bn rest-bytes e)
+      ∙ take-append-drop planRoom S
+
+  pub marked-laid :
+      (r : ℕ) (nums : List ℕ) → length nums ≡ numbersRoom → Bytes nums → numbersIn nums ≡ markedBy r (numbersIn (drop planRoom S)) →
+      take planRoom S ++ nums ≡ markedBytes r S
+  unfolding markedBytes markedBy
+  marked-laid r nums ln bn e = marked-by (stops r) nums ln bn e
+
+  -- by the rest as it is given back
+  pub marked-parts :
+      (r : ℕ) (nums : List ℕ) → length nums ≡ numbersRoom → Bytes (take 288 S ++ (nums ++ drop (length S - 288) (drop 288 S))) →
+      numbersIn nums ≡ markedBy r (numbersIn (take (length S - 288) (drop 288 S))) →
+      take 288 S ++ (nums ++ drop (length S - 288) (drop 288 S)) ≡ markedBytes r S
+  marked-parts r nums ln b e =
+      back-all S long nums
+      ∙ marked-laid r nums ln (back-bytes S long nums b) (e ∙ ap (λ (x : List ℕ). markedBy r (numbersIn x)) (rest-all S long))
+
 -- a session laid in bytes is read again as it was: its numbers are of 4 bytes, as the code's are
 module _ (s : Session) (kept-long : length (s .kept) ≡ planRoom) (depth : s .depth < 4294967296) (held : s .held < 4294967296)
     (opened : s .opened < 4294967296) (handed : s .handed < 4294967296) where
   abbrev laid-numbers : List ℕ
-  laid-numbers = s .depth ∷ s .held ∷ s .opened ∷ s .handed ∷ boolByte (s .ended) ∷ []
+  laid-numbers = s .depth ∷ s .held ∷ s .opened ∷ s .handed ∷ boolByte (s .ended) ∷ boolByte (s .stopped) ∷ []
 
   small : (i : ℕ) → getD laid-numbers i 0 < 4294967296
   small zero = depth
@@ -116,29 +169,37 @@ module _ (s : Session) (kept-long : length (s .kept) ≡ planRoom) (depth : s .d
   small (suc (suc zero)) = opened
   small (suc (suc (suc zero))) = handed
   small (suc (suc (suc (suc zero)))) = omega (arith, boolByte-le (s .ended))
-  small (suc (suc (suc (suc (suc i))))) = omega arith
+  small (suc (suc (suc (suc (suc zero))))) = omega (arith, boolByte-le (s .stopped))
+  small (suc (suc (suc (suc (suc (suc i)))))) = omega arith
 
-  numbers-read : five (numbersIn (bytesOf laid-numbers)) ≡ laid-numbers
+  numbers-read : six (numbersIn (bytesOf laid-numbers)) ≡ laid-numbers
   numbers-read =
-      sym (five-words (bytesOf laid-numbers) (bytes-length laid-numbers ∙ omega (arith, numbers.room-is))) ∙ words-bytes laid-numbers small
+      sym (six-words (bytesOf laid-numbers) (bytes-length laid-numbers ∙ omega (arith, numbers.room-is))) ∙ words-bytes laid-numbers small
 
   pub session-read : sessionIn (sessionBytes s) ≡ s
   unfolding sessionIn sessionBytes
   session-read =
       let n : Numbers = numbersIn (bytesOf laid-numbers) in
-      let at : (i : ℕ) → getD (five n) i 0 ≡ getD laid-numbers i 0 = λ (i : ℕ). ap (λ (l : List ℕ). getD l i 0) numbers-read in
+      let at : (i : ℕ) → getD (six n) i 0 ≡ getD laid-numbers i 0 = λ (i : ℕ). ap (λ (l : List ℕ). getD l i 0) numbers-read in
       ap₂ (λ (x y : List ℕ). sessionOf x (numbersIn y)) (take-at (s .kept) (bytesOf laid-numbers) planRoom kept-long)
       (drop-at (s .kept) (bytesOf laid-numbers) planRoom kept-long)
       ∙ sym
-      (of-parts (s .kept) n (s .depth) (s .held) (s .opened) (s .handed) (boolByte (s .ended)) (sym (at 0)) (sym (at 1)) (sym (at 2)) (sym (at 3))
-      (sym (at 4)))
-      ∙ ap (λ (b : Bool). record { kept = s .kept; depth = s .depth; held = s .held; opened = s .opened; handed = s .handed; ended = b })
-      (boolByte-read (s .ended))
+      (of-parts (s .kept) n (s .depth) (s .held) (s .opened) (s .handed) (boolByte (s .ended)) (boolByte (s .stopped)) (sym (at 0)) (sym (at 1))
+      (sym (at 2)) (sym (at 3)) (sym (at 4)) (sym (at 5)))
+      ∙ ap₂ (λ (b c : Bool). record {
+        kept = s .kept;
+        depth = s .depth;
+        held = s .held;
+        opened = s .opened;
+        handed = s .handed;
+        ended = b;
+        stopped = c;
+      }) (boolByte-read (s .ended)) (boolByte-read (s .stopped))
 
 -- what is kept, copied over the bytes S, and then the numbers in the place of the rest
 pub put-parts :
     (s : Session) (S X nums : List ℕ) → length (s .kept) ≡ 288 → X ≡ take (length (s .kept)) (s .kept) ++ drop (length (s .kept)) S →
-    nums ≡ bytesOf (s .depth ∷ s .held ∷ s .opened ∷ s .handed ∷ boolByte (s .ended) ∷ []) →
+    nums ≡ bytesOf (s .depth ∷ s .held ∷ s .opened ∷ s .handed ∷ boolByte (s .ended) ∷ boolByte (s .stopped) ∷ []) →
     take 288 X ++ (nums ++ drop (length X - 288) (drop 288 X)) ≡ sessionBytes s
 unfolding sessionBytes
 put-parts s S X nums whole eX en =

@@ -28,6 +28,7 @@ use Rattle.meaning.specs.Query.{Query}
 use Rattle.meaning.specs.Stream.{Event, run, document}
 use Rattle.meaning.specs.Selection.{marksRow, marks, selections}
 use Rattle.meaning.specs.Standing.{standingsOf, standings, listedFrom, listed}
+use Rattle.meaning.specs.Answer as meaning
 use Rattle.meaning.specs.Offering.{Offering, offeringAll}
 use Rattle.query.specs.Decode.{decode}
 use Rattle.session.specs.declared.Session.{Session}
@@ -41,8 +42,8 @@ use Rattle.reads.specs.declared.State.{State}
 use Rattle.reads.specs.State.{unread, UnreadWithin, leftoverOf, ReadMore}
 use Rattle.block.specs.Worked.{blockOf, Worked}
 use Rattle.turns.specs.Progress.{Progress}
-use Rattle.turns.specs.Progress.Laws.{progress-none, progress-more, progress-short, progress-all, progress-stopped, progress-same}
-use Rattle.turns.specs.Progress.Laws.{progress-count, progress-few}
+use Rattle.turns.specs.Progress.Laws.{progress-none, progress-more, progress-short, progress-all, progress-refused, progress-same}
+use Rattle.turns.specs.Progress.Laws.{progress-going, progress-count, progress-few}
 use Rattle.turns.specs.Progress.Block.{Enough, BlockProgress, fed-progress, then-fed}
 use Rattle.turns.specs.Turns.{refusalOf, moreToDo, TurnTaken, worked, read, TurnsSoFar, Streamed}
 
@@ -96,7 +97,7 @@ progress-as e f g o = rw (e, f, g) o
 -- before the first turn
 
 pub begun-so-far :
-    {b : List ℕ} (file : File) (session : Session) (input E N : List ℕ) → Enough (housed session E N) → Of b [] (housed session E N) →
+    {b : List ℕ} (file : File) (session : Session) (input E N : List ℕ) → Enough (housed session E N) → Of b (meaning.going []) (housed session E N) →
     TurnsSoFar b file (record { session = session; from = 0; end = 0; taken = 0; refusal = 0; ended = false; written = true }) input E N
 unfolding linesOf
 begun-so-far file session input E N enough o =
@@ -173,7 +174,7 @@ module _ {b : List ℕ} {file : File} (s : State) (input E N : List ℕ) (u : Tu
 
   module _ (out : List ℕ) (s′ : State) (E′ N′ : List ℕ) (b′ : Worked s input E N out s′ E′ N′) where
     told : BlockProgress b (so-far .events) (unread s input) (length (unread s input) / 8) out (blockOf s input E N out)
-    told = fed-progress (length (unread s input) / 8) (unread s input) out (so-far .reached) (u .enough) (omega arith)
+    told = fed-progress (length (unread s input) / 8) (unread s input) out (progress-going so-far) (u .enough) (omega arith)
 
     more-nodes : List ℕ
     more-nodes = nodesIn (blockOf s input E N out .listed) (blockOf s input E N out .out)
@@ -290,7 +291,11 @@ module _ {b : List ℕ} {file : File} {s : State} {input E N : List ℕ} (u : Tu
       record {
         bytes = u .bytes;
         received = u .received;
-        reached = subst (λ (fs : List Event). Of b fs (housed (s .session) E N)) (sym es) (u .offered .reached);
+        stop = u .offered .stop;
+        reached =
+            subst (λ (fs : List Event). Of b (record { events = fs; stopped = u .offered .stop }) (housed (s .session) E N)) (sym es)
+            (u .offered .reached);
+        going-on = u .offered .going-on;
         counted = sym (ap length es ∙ progress-count (u .offered));
         refusal-so = sym (ap (λ (x : Offering). x .refusal) e ∙ r);
         to-end = end;
@@ -316,7 +321,7 @@ module _ {b : List ℕ} {file : File} {s : State} {input E N : List ℕ} (u : Tu
       (refusal-none (s .refusal) (eqb-true _ _ z)) (inl (u .at-end e)) t)
       (λ e h. never (sym h ∙ t)))
       (λ z h.
-      streamed-as _ (progress-stopped (u .offered) (eqb-false _ _ z)) refl (refusal-some (s .refusal) (eqb-false _ _ z))
+      streamed-as _ (progress-refused (u .offered) (eqb-false _ _ z)) refl (refusal-some (s .refusal) (eqb-false _ _ z))
       (stopped-end (s .ended) refl (eqb-false _ _ z)) t)
       stop
     where

@@ -34,7 +34,7 @@ impl Tally {
                 *self.refusals.entry(refusal).or_default() += 1;
             }
         }
-        if let Err(refusal) = run.finish {
+        if let Err(refusal) = run.finish[0] {
             *self.refusals.entry(refusal).or_default() += 1;
         }
     }
@@ -49,7 +49,8 @@ fn main() {
         let (query, events) = case.seen();
         let query = Query::read(query).expect("refused queries are left out");
         let (again, lent) = lending(&mut chance, events);
-        let runs = [(AfterRefusal::Stop, events, Lending::ENOUGH), (AfterRefusal::GoOn, &again[..], Lending(&lent))];
+        let runs =
+            [(AfterRefusal::Leave, events, Lending::ENOUGH), (AfterRefusal::OfferMore, &again[..], Lending(&lent))];
         for (after, events, lending) in runs {
             let [literal, moments] =
                 [Form::Literal, Form::Moments].map(|form| form.run(&query, events, lending, after));
@@ -58,7 +59,7 @@ fn main() {
                 println!("{query:?}\n{events:?}");
                 std::process::exit(1);
             }
-            if after == AfterRefusal::GoOn {
+            if after == AfterRefusal::OfferMore {
                 tallies.entry(case.kind).or_default().count(&moments);
             }
         }

@@ -1,6 +1,6 @@
 //! `compare`: a program's output compared with the second program's on random cases.
 //!
-//!     compare [--seed N] [--cases N] [--only KIND,...] [--trace [--lent]] [--keep FOLDER] PROGRAM [ARGUMENT...]
+//!     compare [--seed N] [--cases N] [--only KIND,...] [--but KIND,...] [--trace [--lent]] [--keep FOLDER] PROGRAM [ARGUMENT...]
 //!
 //! The program is run in a folder with query.rec and events.rec, and must write to its standard output exactly what
 //! `second` writes (with --trace, what `second --trace` writes). At the first difference the case is kept and shown.
@@ -16,12 +16,13 @@ use std::process::{exit, Command, Stdio};
 use std::time::{Duration, Instant};
 
 const USAGE: &str = "\
-compare [--seed N] [--cases N] [--only KIND,...] [--trace [--lent]] [--keep FOLDER] PROGRAM [ARGUMENT...]
+compare [--seed N] [--cases N] [--only KIND,...] [--but KIND,...] [--trace [--lent]] [--keep FOLDER] PROGRAM [ARGUMENT...]
 runs PROGRAM in a folder with query.rec and events.rec, and compares what it writes with the definition's answer
   --seed N       which cases (1)
   --cases N      how many (5000)
   --only KINDS   only these: Small, Wide, Large, Nest, Many, Brim, Cut, DamagedEvents, DamagedQuery, Truncated, Absent,
                  Noise, Long
+  --but KINDS    all but these
   --trace        PROGRAM writes the answer to every event, as `second --trace` does
   --lent         with --trace: lent.rec stands beside the two, and says what PROGRAM lends to each call
   --keep FOLDER  where a case that differs is kept (target/differs)";
@@ -47,7 +48,11 @@ fn wish() -> Option<Wish> {
         match argument.as_str() {
             "--seed" => wish.seed = arguments.next()?.parse().ok()?,
             "--cases" => wish.cases = arguments.next()?.parse().ok()?,
-            "--only" => wish.only = arguments.next()?.split(',').map(kind).collect::<Option<_>>()?,
+            "--only" => wish.only = kinds(&arguments.next()?)?,
+            "--but" => {
+                let but = kinds(&arguments.next()?)?;
+                wish.only.retain(|kind| !but.contains(kind));
+            }
             "--trace" => wish.traced = true,
             "--lent" => wish.lent = true,
             "--keep" => wish.keep = arguments.next()?.into(),
@@ -63,25 +68,19 @@ fn wish() -> Option<Wish> {
     None
 }
 
-fn kind(name: &str) -> Option<Kind> {
-    Kind::ALL.into_iter().find(|k| format!("{k:?}") == name)
+/// The kinds of these names, with commas between them.
+fn kinds(names: &str) -> Option<Vec<Kind>> {
+    names.split(',').map(|name| Kind::ALL.into_iter().find(|k| format!("{k:?}") == name)).collect()
 }
 
-/// What the program must write. Where a session goes on, a long stream that fills the room is cut soon after: the second
-/// program begins anew at each refusal 7, and there would be thousands.
-fn must_write(case: &mut Case, traced: bool) -> String {
+/// What the program must write.
+fn must_write(case: &Case, traced: bool) -> String {
     let (query, events) = case.seen();
-    let text = program(Form::Moments, query, events);
-    if !traced {
-        return text;
+    if traced {
+        trace(Form::Moments, query, events, Lending(case.lent.as_deref().unwrap_or(&[])))
+    } else {
+        program(Form::Moments, query, events)
     }
-    let full = text.lines().last().and_then(|last| last.strip_prefix("refused 7 at ")).and_then(|at| at.parse().ok());
-    if let (Kind::Long, Some(at), Some(events)) = (case.kind, full, &mut case.events) {
-        let at: usize = at;
-        events.truncate(8 * (at + 40));
-    }
-    let (query, events) = case.seen();
-    trace(Form::Moments, query, events, Lending(case.lent.as_deref().unwrap_or(&[])))
 }
 
 /// Writes the case's files into the folder; a missing one is taken away.
@@ -131,6 +130,31 @@ fn show_difference(must: &str, came: &str) {
     println!("  first difference in line {}:\n    must come: {}\n    came:      {}", same + 1, line(must), line(came));
 }
 
+/// Keeps a case that differs, with what must come and what came, and shows where they part.
+fn keep(case: &Case, must: &str, came: Option<Vec<u8>>, folder: &Path) -> std::io::Result<()> {
+    lay_out(case, folder)?;
+    fs::write(folder.join("must-come"), must)?;
+    match came {
+        Some(came) => {
+            fs::write(folder.join("came"), &came)?;
+            show_difference(must, &String::from_utf8_lossy(&came));
+        }
+        None => println!("  the program was stopped by a signal or did not end"),
+    }
+    Ok(())
+}
+
+/// The last line without its counts and its place.
+fn ending(must: &str) -> String {
+    let words: Vec<&str> = must.lines().last().unwrap_or("").split(' ').collect();
+    match words[..] {
+        ["end", ..] => "end".into(),
+        ["finish", "opened", ..] => "finish opened".into(),
+        ["refused", number, ..] => format!("refused {number}"),
+        _ => words.join(" "),
+    }
+}
+
 fn main() -> std::io::Result<()> {
     let Some(wish) = wish() else {
         eprintln!("{USAGE}");
@@ -144,27 +168,16 @@ fn main() -> std::io::Result<()> {
         if wish.lent {
             case = case.lent_to(&mut Chance::new(!wish.seed, number));
         }
-        let must = must_write(&mut case, wish.traced);
+        let must = must_write(&case, wish.traced);
         lay_out(&case, &folder)?;
         let came = answer(&wish.program, &folder)?;
         if came.as_deref() != Some(must.as_bytes()) {
             println!("case {number} of seed {} ({:?}) differs, kept in {}", wish.seed, case.kind, wish.keep.display());
-            lay_out(&case, &wish.keep)?;
-            fs::write(wish.keep.join("must-come"), &must)?;
-            match came {
-                Some(came) => {
-                    fs::write(wish.keep.join("came"), &came)?;
-                    show_difference(&must, &String::from_utf8_lossy(&came));
-                }
-                None => println!("  the program was stopped by a signal or did not end"),
-            }
+            keep(&case, &must, came, &wish.keep)?;
             fs::remove_dir_all(&folder)?;
             exit(1);
         }
-        let last = must.lines().last().unwrap_or("");
-        let ending = last.split(' ').take(2).filter(|w| *w != "at").collect::<Vec<_>>().join(" ");
-        let ending = if ending.starts_with("end") { "end".into() } else { ending };
-        *endings.entry(ending).or_default() += 1;
+        *endings.entry(ending(&must)).or_default() += 1;
         let (count, listing) = tally.entry(case.kind).or_default();
         *count += 1;
         *listing += must.lines().any(|l| l.parse::<usize>().is_ok() || l.contains(", listed ")) as usize;

@@ -1,10 +1,10 @@
--- The session's numbers in bytes, an event on them, and the numbers back if it was taken (Event.Laws). Assumes nothing.
+-- The session's numbers in bytes, an event on them, and the numbers back (Event.Laws). Assumes nothing.
 use borrow.Author.Needs.{needs}
 use native.Mathlib.Omega.{arith}
 use mathlib.Core.Path.{sym}
 use Rattle.numbers.specs.Numbers.Laws as numbers
 use Rattle.plan_bytes.specs.Kept.{planRoom}
-use Rattle.session.specs.Event.Laws.{event-refused, event-taken}
+use Rattle.session.specs.Event.Laws.{event-gives}
 use Rattle.session.proofs.Session.event.Statement.{statement}
 use Rattle.session.proofs.Session.event.Tie as tie
 
@@ -24,6 +24,15 @@ offer-requires : tie.Need-offer-requires
 unfolding planRoom
 offer-requires c κs = (search needs, omega (arith, numbers.room-is, c .before .before .before .before .before .numbers2 .given))
 
+answered-requires : tie.Need-answered-requires
+answered-requires c κs = search needs
+
+slice-aggregate-with : tie.Need-slice-aggregate-with
+slice-aggregate-with c = search needs
+
+with-requires : tie.Need-with-requires
+with-requires c κs = omega (arith, numbers.room-is, c .before .before .before .before .before .before .before .before .numbers4 .given)
+
 same-length : tie.Need-same-length
 same-length c = search needs
 
@@ -34,34 +43,12 @@ same-length-3 : tie.Need-same-length-3
 same-length-3 c = search needs
 
 returns : tie.Need-returns
-returns c = let at-offer = c .before .before .before .before .before .before .before .before .before in
+returns c = let at-answered = c .before .before in
+    let at-offer = at-answered .before .before .before .before .before .before .before .before in
     let at-lay = at-offer .before .before .before .before .before .before .before in
     let args = at-lay .before .before .before .before .before .before .before .args in
-    event-refused (args .self) (args .bytes .now) (args .elements .now) (args .nodes .now) (args .out .now) _ _ _ _ _ _ _ (at-lay .lay .ensures)
-    (at-offer .offer .ensures) (c .if1 .taken)
-
-slice-aggregate-with : tie.Need-slice-aggregate-with
-slice-aggregate-with c = search needs
-
-with-requires : tie.Need-with-requires
-with-requires c κs = omega (arith, numbers.room-is, c .before .before .before .before .before .before .before .before .before .numbers4 .given)
-
-same-length-4 : tie.Need-same-length-4
-same-length-4 c = search needs
-
-same-length-5 : tie.Need-same-length-5
-same-length-5 c = search needs
-
-same-length-6 : tie.Need-same-length-6
-same-length-6 c = search needs
-
-returns-2 : tie.Need-returns-2
-returns-2 c = let at-if = c .before .before in
-    let at-offer = at-if .before .before .before .before .before .before .before .before .before in
-    let at-lay = at-offer .before .before .before .before .before .before .before in
-    let args = at-lay .before .before .before .before .before .before .before .args in
-    event-taken (args .self) (args .bytes .now) (args .elements .now) (args .nodes .now) (args .out .now) _ _ _ _ _ _ _ (at-lay .lay .ensures)
-    (at-offer .offer .ensures) _ (at-if .if1 .left) (c .with .ensures)
+    event-gives (args .self) (args .bytes .now) (args .elements .now) (args .nodes .now) (args .out .now) _ _ _ _ _ _ _ (at-lay .lay .ensures)
+    (at-offer .offer .ensures) _ _ (at-answered .answered .ensures) (c .with .ensures)
 
 pub event-spec : {M : Type 1} → statement M
 event-spec =
@@ -72,13 +59,10 @@ event-spec =
     slice-aggregate-offer
     slice-aggregate-offer-2
     offer-requires
+    answered-requires
+    slice-aggregate-with
+    with-requires
     same-length
     same-length-2
     same-length-3
-    returns
-    slice-aggregate-with
-    with-requires
-    same-length-4
-    same-length-5
-    same-length-6
-    returns-2)
+    returns)

@@ -24,46 +24,46 @@ returns-2 c = let args = c .before .before .before .before .before .before .befo
     run-short (args .self) (args .events .now) (args .elements .now) (args .nodes .now) (args .out .now) _ (c .stays2 .ensures)
     (omega (arith, output-is))
 
-refuse-lent-requires : tie.Need-refuse-lent-requires
-refuse-lent-requires c κs = search needs
+refuse-room-requires : tie.Need-refuse-room-requires
+refuse-room-requires c κs = search needs
 
 stays-requires-3 : tie.Need-stays-requires-3
 stays-requires-3 c κs = search needs
 
 returns-3 : tie.Need-returns-3
-returns-3 c = let at-lent = c .before .before in
-    let args = at-lent .before .before .before .before .before .before .before .args in
+returns-3 c = let at-room = c .before .before in
+    let args = at-room .before .before .before .before .before .before .before .args in
     run-small (args .self) (args .events .now) (args .elements .now) (args .nodes .now) (args .out .now) _ _ (c .stays3 .ensures)
-    (at-lent .refuse-lent .ensures .0) (c .before .if3 .taken) (at-lent .before .before .if1 .left) (omega (arith, output-is))
+    (at-room .refuse-room .ensures .0) (c .before .if3 .taken) (at-room .before .before .if1 .left) (omega (arith, output-is))
 
 slice-relend-prefix-run-within : tie.Need-slice-relend-prefix-run-within
 slice-relend-prefix-run-within c = let at-if = c in
-    let fits = at-if .before .refuse-lent .ensures .1 (at-if .if3 .left) in
-    omega (arith, elements-is, fits .room .deep)
+    let fits = at-if .before .refuse-room .ensures .1 (at-if .if3 .left) in
+    omega (arith, elements-is, fits .deep)
 
 slice-aggregate-run-within : tie.Need-slice-aggregate-run-within
 slice-aggregate-run-within c = let at-if = c .before in
-    let fits = at-if .before .refuse-lent .ensures .1 (at-if .if3 .left) in
+    let fits = at-if .before .refuse-room .ensures .1 (at-if .if3 .left) in
     let elements = at-if .before .before .before .before .before .before .before .before .args .elements .now in
-    sym (length-take-le _ elements (omega (arith, elements-is, fits .room .deep)))
+    sym (length-take-le _ elements (omega (arith, elements-is, fits .deep)))
 
 slice-relend-prefix-run-within-2 : tie.Need-slice-relend-prefix-run-within-2
 slice-relend-prefix-run-within-2 c = let at-if = c .before in
-    let fits = at-if .before .refuse-lent .ensures .1 (at-if .if3 .left) in
-    omega (arith, nodes-is, fits .room .held)
+    let fits = at-if .before .refuse-room .ensures .1 (at-if .if3 .left) in
+    omega (arith, nodes-is, fits .held)
 
 slice-aggregate-run-within-2 : tie.Need-slice-aggregate-run-within-2
 slice-aggregate-run-within-2 c = let at-if = c .before .before in
-    let fits = at-if .before .refuse-lent .ensures .1 (at-if .if3 .left) in
+    let fits = at-if .before .refuse-room .ensures .1 (at-if .if3 .left) in
     let nodes = at-if .before .before .before .before .before .before .before .before .args .nodes .now in
-    sym (length-take-le _ nodes (omega (arith, nodes-is, fits .room .held)))
+    sym (length-take-le _ nodes (omega (arith, nodes-is, fits .held)))
 
 run-within-requires : tie.Need-run-within-requires
 run-within-requires c κs = let at-if = c .before .before .before in
-    let fits = at-if .before .refuse-lent .ensures .1 (at-if .if3 .left) in
+    let fits = at-if .before .refuse-room .ensures .1 (at-if .if3 .left) in
     let args = at-if .before .before .before .before .before .before .before .before .args in (
-      length-take-le _ (args .elements .now) (omega (arith, elements-is, fits .room .deep)) ∙ sym elements-is,
-      length-take-le _ (args .nodes .now) (omega (arith, nodes-is, fits .room .held)) ∙ sym nodes-is,
+      length-take-le _ (args .elements .now) (omega (arith, elements-is, fits .deep)) ∙ sym elements-is,
+      length-take-le _ (args .nodes .now) (omega (arith, nodes-is, fits .held)) ∙ sym nodes-is,
     )
 
 same-length : tie.Need-same-length
@@ -77,11 +77,11 @@ same-length-3 c = search needs
 
 returns-4 : tie.Need-returns-4
 returns-4 c = let at-if = c .before .before .before .before .before .before .before .before .before .before in
-    let fits = at-if .before .refuse-lent .ensures .1 (at-if .if3 .left) in
+    let fits = at-if .before .refuse-room .ensures .1 (at-if .if3 .left) in
     let at-run = c .before .before .before .before .before .before in
     let args = at-if .before .before .before .before .before .before .before .before .args in (
       run-parts (args .self) (args .events .now) (args .elements .now) (args .nodes .now) (args .out .now) _ _ elements-is nodes-is
-          (omega (arith, elements-is, fits .room .deep)) (omega (arith, nodes-is, fits .room .held)) _ _ _ _ (at-run .run-within .ensures .0),
+          (omega (arith, elements-is, fits .deep)) (omega (arith, nodes-is, fits .held)) _ _ _ _ (at-run .run-within .ensures .0),
       at-run .run-within .ensures .1,
     )
 
@@ -93,7 +93,7 @@ run-spec =
     returns
     stays-requires-2
     returns-2
-    refuse-lent-requires
+    refuse-room-requires
     stays-requires-3
     returns-3
     slice-relend-prefix-run-within
