@@ -4,6 +4,7 @@
 --   when-true, when-false   what it is, by what the test says
 --   when-yes, when-no       what equals a, or b, equals it
 --   when-ap                 a function of it
+--   when-and, and-when      with false for the other value both must hold, in either order
 --   when-either             what holds of both holds of it
 --   never                   no test answers both
 --   when-known              what holds of each value where its test answers so holds of the choice
@@ -12,7 +13,7 @@
 use Prim.Native.Nat.{ℕ}
 use native.Mathlib.Omega.{arith}
 use mathlib.Core.Path.{_≡_, refl, sym, ap, _∙_}
-use mathlib.Core.Bool.{Bool, true, false}
+use mathlib.Core.Bool.{Bool, true, false, _&&_}
 use mir.Val.{boolByte}
 
 pub never : {A : Type 0} → _≡_ {A = Bool} false true → A
@@ -41,6 +42,18 @@ pub when-ap : {A B : Type 0} (f : A → B) (t : Bool) (a b : A) → f (when t a 
 unfolding when
 when-ap f true a b = refl
 when-ap f false a b = refl
+
+pub when-and : (a b : Bool) → when a b false ≡ (a && b)
+unfolding when
+when-and true b = refl
+when-and false b = refl
+
+pub and-when : (a b : Bool) → when a b false ≡ (b && a)
+unfolding when
+and-when true true = refl
+and-when true false = refl
+and-when false true = refl
+and-when false false = refl
 
 pub when-either : {A : Type 0} (P : A → Type 0) (t : Bool) (a b : A) → P a → P b → P (when t a b)
 unfolding when

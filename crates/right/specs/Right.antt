@@ -12,7 +12,8 @@
 --   waiting-read         and the waiting nodes' numbers
 --   step-right           THE STEP
 --
--- Assumes that enough is lent and that the session is not stopped: refusals 1, 15 and 11 are the callers' (crates offer and stop). NOT here: that accepted events stay within the limits.
+-- Assumes that enough is lent and that the session is not stopped: refusals 1, 15 and 11 are the callers' (crates offer and stop). NOT here: that accepted
+-- events stay within the limits.
 use Prim.Native.Nat.{ℕ, _-_, _≤_, _<_}
 use native.Mathlib.Omega.{arith}
 use mathlib.Core.Path.{_≡_, refl, sym, ap, ap₂, _∙_, subst, subst₂}

@@ -17,7 +17,7 @@ use lib.Dec.{eqb, leb, ltb}
 use lib.ListN.{length, getD, set, take, drop, take-append-drop}
 use lib.Seq.{take-suc, take-suc-set, take-all, take-at, length-take-le}
 use borrow.Author.Tests.{lt-leb, leb-false}
-use Rattle.choice.specs.When.{when, when-true, when-false}
+use Rattle.choice.specs.When.{when, when-true, when-false, and-when}
 use Rattle.meaning.specs.Limits.{depthLimit, heldLimit}
 use Rattle.sets.specs.Set.{meet, without}
 use Rattle.plan.specs.Plan.{Plan, named, lastGiven}
@@ -32,13 +32,6 @@ use Rattle.node.specs.Node.{Queue, queueIn}
 use Rattle.node.specs.Node.Laws.{nodes-length}
 use Rattle.nodes.specs.declared.Going.{Going}
 use Rattle.opening.specs.Opening.{usedIn, goingOf, Opened, openedBy, openingIn, allGo, noPlace, overIn}
-
-when-and : (c a : Bool) → when c a false ≡ (a && c)
-unfolding when
-when-and true true = refl
-when-and true false = refl
-when-and false true = refl
-when-and false false = refl
 
 picked : (all joins b : Bool) → when all false (when joins b false) ≡ (not all && (joins && b))
 unfolding when
@@ -113,7 +106,7 @@ module _ (P : Plan) (x depth held : ℕ) (bs ns : List ℕ) (deep : depth < dept
       ∙ ap (possibleAt P fs) (sym fs-length) in
       let c : certain ≡ C = ec ∙ ap₂ lastGiven (ap₂ meet ep el) s in
       let a : all ≡ (eqb W (length (take held (N .list))) && C) =
-      eall ∙ ap₂ (λ k b. when b (eqb k held) false) w c ∙ when-and C (eqb W held) ∙ ap (λ h. eqb W h && C) (sym ws-length) in
+      eall ∙ ap₂ (λ k b. when b (eqb k held) false) w c ∙ and-when C (eqb W held) ∙ ap (λ h. eqb W h && C) (sym ws-length) in
       let j : joins ≡ lastGiven (named P x) (possibleAt P fs (length fs)) = ej ∙ ap₂ lastGiven ep u in
       three w a j one ∙ ap (openedBy depth E) (sym opening-is)
     where

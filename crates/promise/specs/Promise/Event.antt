@@ -27,7 +27,8 @@ use Rattle.meaning.specs.Demands.{counts-add-up}
 use Rattle.meaning.specs.Stream.{Event, document, Stream}
 use Rattle.meaning.specs.Record.{eventOf}
 use Rattle.meaning.specs.Answer as meaning
-use Rattle.meaning.specs.Answer.{Lent, Call, Past, tooSmall, eventRefusals, refusals, firstOr, first, callEvents, yield, answerIf, answer, afterIf, after, handedBy}
+use Rattle.meaning.specs.Answer.{Lent, Call, Past, tooSmall, eventRefusals, refusals, firstOr, first, callEvents, yield, answerIf, answer}
+use Rattle.meaning.specs.Answer.{afterIf, after, handedBy}
 use Rattle.meaning.specs.Answer.Laws.{act-document, after-stream}
 use Rattle.meaning.specs.Answer.Bounds.{Bounded, after-bounded, handed-within}
 use Rattle.query.specs.Decode.{decode}
@@ -42,7 +43,7 @@ use Rattle.element.specs.Element.{Elements, elementsIn}
 use Rattle.node.specs.Node as node
 use Rattle.node.specs.Node.{Queue, queueIn}
 use Rattle.numbers.specs.Numbers.{Numbers}
-use Rattle.step.specs.Step.{After, refusedWith, step}
+use Rattle.step.specs.Step.{After, step}
 use Rattle.step.specs.Step.Left.{step-still}
 use Rattle.stop.specs.Stop.{marked, guarded}
 use Rattle.stop.specs.Stop.Laws.{marked-same, guarded-stopped, guarded-going}
@@ -59,7 +60,7 @@ use Rattle.session.specs.declared.Session.{Session}
 use Rattle.session.specs.declared.Next.{Next}
 use Rattle.session.specs.declared.Answer as answers
 use Rattle.session.specs.declared.Answer.the-variants.{Refused, Taken}
-use Rattle.session.specs.Event.{Done, refused, sessionNumbers, withNumbers, stoppedBy, answerBy, settled, event, EventGives}
+use Rattle.session.specs.Event.{Done, sessionNumbers, withNumbers, stoppedBy, answerBy, settled, event, EventGives}
 use Rattle.session.specs.Event.Laws.{event-refused, event-cases, event-is}
 use Rattle.session.specs.Run.{Housed, housed}
 use Rattle.session.specs.Told.{told}

@@ -16,7 +16,7 @@ use mir.Val.{boolByte}
 use lib.Dec.{eqb, ltb}
 use lib.ListN.{length, take, drop, length-append, length-drop}
 use lib.Seq.{drop-drop}
-use borrow.Author.Tests.{eqb-false, ne-eqb, ltb-true, ltb-false, le-ltb}
+use borrow.Author.Tests.{ne-eqb, ltb-true, ltb-false, le-ltb}
 use Rattle.choice.specs.When.{when, when-true, when-false, when-known, when-either}
 use Rattle.choice.specs.Count.{positive}
 use Rattle.meaning.specs.Limits.{outputNeeded}
@@ -26,10 +26,7 @@ use Rattle.meaning.specs.Answer.{Call, Past, tooSmall, answer, handedBy, handed
 use Rattle.query.specs.Decode.{decode}
 use Rattle.records.specs.Write.{recordsOf, nodesIn}
 use Rattle.records.specs.Write.Laws.{length-records, records-append, length-nodes}
-use Rattle.plan_bytes.specs.Kept.{keptIn}
 use Rattle.feed.specs.Fed.{Came, Fed, none, one, andThen, fed}
-use Rattle.feed.specs.Steps.{Seat, seat}
-use Rattle.offer.specs.Offer.{offered}
 use Rattle.session.specs.declared.Session.{Session}
 use Rattle.session.specs.declared.Next.{Next}
 use Rattle.session.specs.declared.Answer.{Answer}

@@ -18,7 +18,7 @@ use Rattle.meaning.specs.Standing.{listed, held}
 use Rattle.meaning.specs.Stream.{Event, document}
 use Rattle.meaning.specs.Answer as meaning
 use Rattle.meaning.specs.Answer.{Call, Past, going, tooSmall, answer, afterAll}
-use Rattle.meaning.specs.Answer.Laws.{finish-same, after-append}
+use Rattle.meaning.specs.Answer.Laws.{after-append}
 use Rattle.meaning.specs.Answer.Stop.{TurnedAway, stopped-answer, stopped-same, stopped-for-ever, stopped-answers}
 use Rattle.query.specs.Decode.{decode}
 use Rattle.session.specs.declared.Session.{Session}
@@ -30,7 +30,7 @@ use Rattle.session.specs.Told.{told}
 use Rattle.promise.specs.Lending.{leftBy}
 use Rattle.promise.specs.Promise.{Of, waiting-held}
 use Rattle.promise.specs.Promise.Event.{event-answered, event-of}
-use Rattle.promise.specs.Theorem.{Use, Reply, Played, unused, by-event, by-finish, Reached, callOf, answerOf, streamOf, nodesOf, Same, Ceased}
+use Rattle.promise.specs.Theorem.{Use, Reply, Played, unused, by-event, by-finish, Reached, callOf, streamOf, Same, Ceased}
 use Rattle.promise.specs.Theorem.Replies.{play-kept, reached-of, nodes-listed, same}
 use Rattle.promise.specs.Theorem.Blocks.{played-append, reached-by}
 
