@@ -47,7 +47,7 @@ came refusal listed s out = record { refusal = refusal; listed = listed; seat = 
 abbrev pub stoppedAt : ℕ → Seat → Seat
 stoppedAt r s = seat (markedBy r (s .numbers)) (s .elements) (s .nodes)
 
--- "A refused call leaves the lent room as it was, too"
+-- "list, counts, output and lent room stay byte for byte as they were"
 unfoldable pub cameTo : Seat → List ℕ → After → Came Seat
 cameTo s out a =
     when (eqb (a .refusal) 0)

@@ -1,4 +1,4 @@
-// A block of events on lent bytes, one step after the other.
+// A block of events on lent bytes, one after the other, each with the stop (crate stop).
 ghost use mathlib.Core.Path.{_≡_};
 ghost use Prim.Native.Nat.{_*_, _/_, _≤_};
 ghost use lib.ListN.{length};

@@ -6,7 +6,7 @@
 --   offered P s bytes out    one event: refusals 1 and 15 by the lengths of what is lent, else a step (crate feed, Steps) on the room that is needed
 --   OfferGives P s bytes out r s′ out′      THE PROMISE of `offer`: its result r, the numbers and rooms s′ and the buffer out′ on return are those
 --
--- Assumes nothing. NOT here: what a step does (crate step), when room is too small (crate meaning, Answer).
+-- Assumes nothing. NOT here: the stop (crate stop), what a step does (crate step), when room is too small (crate meaning, Answer).
 pub mod Laws
 pub mod Alike
 use Prim.Native.Nat.{ℕ}

@@ -1,4 +1,5 @@
-// One event on a session in lent bytes and on room of any length: refusals 1 and 15 by the lengths, then a step on the bytes of each room that are needed.
+// One event on a session in lent bytes and on room of any length: refusals 1 and 15 by the lengths, then the stop
+// and a step on the bytes of each room that are needed (crate stop).
 ghost use mathlib.Core.Path.{_≡_};
 ghost use Prim.Native.Nat.{_≤_};
 ghost use lib.ListN.{length};

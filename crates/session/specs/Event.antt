@@ -12,7 +12,7 @@
 --   finish s                 the nodes opened and handed out, or refusal 11 or 8
 --   FinishGives s r          THE PROMISE of `finish`: its result r stands for that
 --
--- Assumes nothing. NOT here: what an event does to numbers and room (crates offer, step), which bytes are which event (crate meaning, Record).
+-- Assumes nothing. NOT here: what an event does to numbers and room (crates offer, stop, step), which bytes are which event (crate meaning, Record).
 pub mod Laws
 use Prim.Native.Nat.{ℕ}
 use mathlib.Core.Path.{_≡_}

@@ -12,6 +12,7 @@
 -- Assumes nothing. NOT here: the session in bytes (Laid), the query's answer as a number (crate query_c, Packed), that the promises allow one result (Laws).
 pub mod Laws
 pub mod Offered
+pub mod Read
 use Prim.Native.Nat.{ℕ, _*_, _/_}
 use mathlib.Core.Path.{_≡_}
 use mathlib.Core.List.{List}
@@ -41,7 +42,7 @@ pub record Began : Type 0 where
   pub number : ℕ
   pub session : List ℕ
 
--- "call gives its number and changes nothing": the blank session beside a refusal is not laid in the bytes
+-- "beside a refused query's number stands one fixed blank session": it is not laid in the bytes
 unfoldable pub startedBy : query.Answer → Session → List ℕ → List ℕ
 startedBy query.admitted t S = sessionBytes t
 startedBy (query.refused n) t S = S

@@ -182,8 +182,8 @@ fn put_moved(taken: usize, refusal: u8, next: Session, room: &mut [u8])
     put_session(next, room);
 }
 
-// Takes a block of events: 0, or the number of the refusal at which it stopped. `counts` is how many events were taken, and how many list records stand at
-// the start of `out`.
+// Takes a block of events: 0, or the number of the refusal with which it ended. `counts` is how many events were taken, and how many list records stand at
+// the start of `out`; it is written beside a refusal too.
 #[no_mangle]
 pub extern "C" fn compassflare_run(
     session: &mut [u8],

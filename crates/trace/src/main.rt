@@ -1,5 +1,5 @@
 // Offers each event of `events.rec` to a session by itself, also after a refusal, and writes a line for each: how it was answered, how many nodes
-// are held, and which were handed out. `lent.rec`, if it is there, says how much is lent to each call.
+// are held, and which were handed out; then it asks finish twice. `lent.rec`, if it is there, says how much is lent to each call.
 ghost use Prim.Native.Nat.{_≤_};
 ghost use Rattle.io.specs.Counts.{Counts};
 use session::Answer;

@@ -355,7 +355,7 @@ fn short_nodes(session: Session, out: &mut [u8]) -> Session {
     )
 }
 
-// Too small, and then enough for the same session: 15 "stops nothing".
+// Too small, and then enough for the same session: "Refusals 1, 15 and 8 stop nothing".
 fn rooms(elements: &mut [u8], nodes: &mut [u8], out: &mut [u8]) {
     let begun = begin_r(&*elements, &*nodes);
     let session = begun.session;

@@ -1,6 +1,7 @@
 -- That a session is read from its bytes, and laid in them, as it stands there.
 --
 --   plan-room, room-is, counts-room      how many bytes it keeps of its query, it takes in all, and two counts take, as numbers
+--   six, six-words       the numbers as a list, and that these are the words of their bytes
 --   numbers-laid         bytes with these numbers are those of the numbers
 --   of-parts             a session by what it keeps of its query and its numbers one by one
 --   rest-room            how long the rest of the bytes is, after what is kept of the query
@@ -8,6 +9,8 @@
 --   back-all, back-bytes      the session's bytes when the rest is given back with other numbers;  these are bytes
 --   read-parts           what is kept, copied, and the numbers in the rest are the session in the bytes
 --   session-read         a session laid in bytes is read again as it was
+--   rest-long, rest-bytes     how long the rest is, and that it is bytes
+--   marked-is            the bytes after a refusal that stops, by the numbers
 --   marked-laid          numbers after a refusal in the place of the rest are the session's bytes after it
 --   marked-parts         the same, by the rest as it is given back
 --   put-parts            what is kept, copied over the bytes, and then the numbers in the place of the rest are the bytes of the session
@@ -53,7 +56,7 @@ counts-room = refl
 abbrev pub six : Numbers → List ℕ
 six n = n .depth ∷ n .held ∷ n .opened ∷ n .handed ∷ n .ended ∷ n .stopped ∷ []
 
-six-words : (bs : List ℕ) → length bs ≡ numbersRoom → words bs ≡ six (numbersIn bs)
+pub six-words : (bs : List ℕ) → length bs ≡ numbersRoom → words bs ≡ six (numbersIn bs)
 unfolding recordIn numbersIn recordsIn rows
 six-words bs l = is-rows 6 (λ i. getD (words bs) i 0) 0 (words bs) (words-length 6 bs (omega (arith, numbers.room-is))) (λ i h. refl)
 
@@ -127,17 +130,20 @@ module _ (S : List ℕ) (long : length S ≡ sessionRoom) (bytes-S : Bytes S) wh
       sym (take-append-add (take planRoom S) (drop planRoom S) 20)
       ∙ ap₂ (λ (k : ℕ) (x : List ℕ). take (k + 20) x) l (take-append-drop planRoom S)
 
+  pub marked-is :
+      take planRoom S ++ bytesOf (six (withStop 1 (numbersIn (drop planRoom S)))) ≡ take (planRoom + 20) S ++ bytesOf (1 ∷ [])
+  marked-is =
+      ap (λ (x : List ℕ). take planRoom S ++ x)
+      (six-stopped (drop planRoom S) (numbersIn (drop planRoom S)) (numbers-laid (drop planRoom S) _ rest-long rest-bytes refl))
+      ∙ sym (append-assoc (take planRoom S) (take 20 (drop planRoom S)) (bytesOf (1 ∷ [])))
+      ∙ ap (_++ bytesOf (1 ∷ [])) stopped-front
+
   marked-by :
       (b : Bool) (nums : List ℕ) → length nums ≡ numbersRoom → Bytes nums →
       numbersIn nums ≡ when b (withStop 1 (numbersIn (drop planRoom S))) (numbersIn (drop planRoom S)) →
       take planRoom S ++ nums ≡ when b (take (planRoom + 20) S ++ bytesOf (1 ∷ [])) S
   unfolding when
-  marked-by true nums ln bn e =
-      ap (λ (x : List ℕ). take planRoom S ++ x)
-      (numbers-laid nums _ ln bn e
-      ∙ six-stopped (drop planRoom S) (numbersIn (drop planRoom S)) (numbers-laid (drop planRoom S) _ rest-long rest-bytes refl))
-      ∙ sym (append-assoc (take planRoom S) (take 20 (drop planRoom S)) (bytesOf (1 ∷ [])))
-      ∙ ap (_++ bytesOf (1 ∷ [])) stopped-front
+  marked-by true nums ln bn e = ap (λ (x : List ℕ). take planRoom S ++ x) (numbers-laid nums _ ln bn e) ∙ marked-is
   marked-by false nums ln bn e =
       ap (λ (x : List ℕ). take planRoom S ++ x) (numbers.numbers-same nums (drop planRoom S) ln rest-long bn rest-bytes e)
       ∙ take-append-drop planRoom S

@@ -259,8 +259,8 @@ module _ {b : List ℕ} {file : File} (s : State) (input E N : List ℕ) (u : Tu
           told out s′ E′ N′ x .some (omega (arith, unread-length s input w)) room (sym (x .refusal-so) ∙ eqb-true _ _ e) in
           omega (arith, flags, some, left, few, room-for .0, room-for .1, x .taken-so, boolByte-le (eqb (s′ .refusal) 0), boolByte-le (not (s′ .ended)))
       by false e =
-          let stopped : boolByte (eqb (s′ .refusal) 0) ≡ 0 = ap boolByte e in
-          omega (arith, flags, stopped, left, few, room-for .0, room-for .1, x .taken-so, boolByte-le (not (s′ .ended)))
+          let refused : boolByte (eqb (s′ .refusal) 0) ≡ 0 = ap boolByte e in
+          omega (arith, flags, refused, left, few, room-for .0, room-for .1, x .taken-so, boolByte-le (not (s′ .ended)))
 
   pub turn-less :
       (L : ℕ) (out : List ℕ) (s′ : State) (input′ E′ N′ : List ℕ) → L ≡ length input → L ≡ length input′ → outputNeeded ≤ length out →
@@ -304,11 +304,11 @@ module _ {b : List ℕ} {file : File} {s : State} {input E N : List ℕ} (u : Tu
             (subst (λ (l : List ℕ). Delivered (linesOf (l ++ u .nodes))) (sym (listed-none (decode b))) (u .delivered t));
       }
 
-  stopped-end :
+  refused-end :
       (ended : Bool) → s .ended ≡ ended → (s .refusal ≡ 0 → ⊥) →
       ReadOver file ⊎ ((more : List ℕ) → offeringAll (decode b) (u .bytes ++ more) ≡ offeringAll (decode b) (u .bytes))
-  stopped-end true e z = inl (u .at-end e)
-  stopped-end false e z = inr (progress-same (u .offered) z (u .whole e z))
+  refused-end true e z = inl (u .at-end e)
+  refused-end false e z = inr (progress-same (u .offered) z (u .whole e z))
 
   pub so-far-streamed : moreToDo (s .refusal) (s .ended) (s .written) ≡ false → s .written ≡ true → Streamed b file s E N
   unfolding moreToDo refusalOf
@@ -322,7 +322,7 @@ module _ {b : List ℕ} {file : File} {s : State} {input E N : List ℕ} (u : Tu
       (λ e h. never (sym h ∙ t)))
       (λ z h.
       streamed-as _ (progress-refused (u .offered) (eqb-false _ _ z)) refl (refusal-some (s .refusal) (eqb-false _ _ z))
-      (stopped-end (s .ended) refl (eqb-false _ _ z)) t)
+      (refused-end (s .ended) refl (eqb-false _ _ z)) t)
       stop
     where
       refusal-none : (r : ℕ) → r ≡ 0 → none ≡ refusalOf r
