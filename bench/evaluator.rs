@@ -38,16 +38,29 @@ struct Plan {
 
 enum QueryFault {
     Length,
-    Step(usize),
+    /// A step's number, and the reason.
+    Step(usize, usize),
 }
 
 impl QueryFault {
     fn report(&self) -> String {
         match self {
             QueryFault::Length => "refused 9".to_string(),
-            QueryFault::Step(step) => format!("refused 10 at {step}"),
+            QueryFault::Step(step, reason) => format!("refused 10 at {step} reason {reason}"),
         }
     }
+}
+
+/// The lowest reason that applies to a step; `last_main` is the nearest main-path step before it, or 0.
+fn reason(step: usize, r: &[u8], last_main: usize) -> Option<usize> {
+    let (main, hangs_on) = (r[1] == 1, usize::from(r[2]));
+    let breaks = [
+        !matches!(r[0], 1 | 2),
+        r[1] > 1 || step == 1 && !main,
+        if main { hangs_on != last_main } else { !(1..step).contains(&hangs_on) },
+        (r[3], r[6], r[7]) != (0, 0, 0),
+    ];
+    breaks.iter().position(|&broken| broken).map(|place| place + 1)
 }
 
 impl Plan {
@@ -64,12 +77,11 @@ impl Plan {
         let (mut descendant, mut stars) = (0, 0);
         let mut named: Vec<(usize, Steps)> = Vec::new();
         for (i, r) in records.iter().enumerate() {
+            if let Some(reason) = reason(i + 1, r, last_main) {
+                return Err(QueryFault::Step(i + 1, reason));
+            }
             let main = r[1] == 1;
             let hangs_on = usize::from(r[2]);
-            let hangs_well = if main { hangs_on == last_main } else { (1..=i).contains(&hangs_on) };
-            if !matches!(r[0], 1 | 2) || r[1] > 1 || !hangs_well || (r[3], r[6], r[7]) != (0, 0, 0) {
-                return Err(QueryFault::Step(i + 1));
-            }
             let counter = if main { &mut next_main } else { &mut next_predicate };
             let bit = 1 << *counter;
             bit_of[i] = *counter;

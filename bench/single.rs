@@ -53,7 +53,7 @@ struct Picker {
 }
 
 impl Picker {
-    /// Begin's answer is 0, or the refusal's number and 256 times the step's number.
+    /// Begin's answer is 0, or the refusal's number, and with 10 also 256 times the step's number and 65,536 times the reason.
     fn new(query: &[u8]) -> Result<Picker, u64> {
         let mut picker =
             Picker { session: [0; SESSION], elements: vec![0; ELEMENTS], nodes: vec![0; NODES], out: vec![0; OUTPUT] };
@@ -152,7 +152,7 @@ fn main() -> io::Result<()> {
     let query = std::fs::read(folder.join("query.rec")).unwrap_or_default();
     let last = match Picker::new(&query) {
         Err(answer) if answer < 256 => format!("refused {answer}"),
-        Err(answer) => format!("refused {} at {}", answer % 256, answer / 256),
+        Err(answer) => format!("refused {} at {} reason {}", answer % 256, answer / 256 % 256, answer / 65536),
         Ok(picker) => match File::open(folder.join("events.rec")) {
             Ok(events) => run(picker, events, &mut to)?,
             Err(_) => picker.finish(0),

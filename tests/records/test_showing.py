@@ -3,7 +3,7 @@ import hashlib
 import os
 import unittest
 
-from folder import BOOK, CELLS, Folder, HERE, MOST_STEPS
+from folder import BOOK, CELLS, Folder, HERE
 
 
 class Showing(Folder):
@@ -45,17 +45,6 @@ class Showing(Folder):
         self.assertIn("event 2 is a bad record: 01 02 00 01", self.ill("show", "events.rec"))
         self.put("events.rec", bytes([1, 0, 0, 1, 0, 0, 0, 0, 1]))
         self.assertIn("event 2 has only 1 bytes", self.ill("show", "events.rec"))
-
-    def test_refused_queries(self):
-        for data, said in [(b"", "refused 9: 0 bytes"), (bytes(7), "refused 9: 7 bytes"),
-                           (bytes(8 * (MOST_STEPS + 1)), f"refused 9: {8 * (MOST_STEPS + 1)} bytes"),
-                           (bytes([3, 1, 0, 0, 0, 1, 0, 0]), "refused 10 at 1: axis 3"),
-                           (bytes([1, 0, 0, 0, 0, 1, 0, 0]), "refused 10 at 1: step 1 must be on the main path"),
-                           (bytes([1, 1, 0, 0, 0, 1, 0, 0, 1, 0, 2, 0, 0, 1, 0, 0]), "10 at 2: a predicate step"),
-                           (bytes([1, 1, 0, 0, 0, 1, 0, 0, 1, 1, 0, 0, 0, 1, 0, 0]), "10 at 2: a main-path step"),
-                           (bytes([1, 1, 0, 0, 0, 1, 0, 9]), "refused 10 at 1: bytes 3, 6 and 7")]:
-            self.put("query.rec", data)
-            self.assertIn(said, self.ill("show", "query.rec"))
 
     def test_the_file_tells_what_it_is(self):
         self.well("query", "/a", "-o", "one")

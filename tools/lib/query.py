@@ -6,6 +6,8 @@ from lib.text import Text, is_number
 MOST_STEPS = 32
 AXES = {1: "child", 2: "descendant"}
 AXIS_BYTES = {axis: byte for byte, axis in AXES.items()}
+# The reasons that come with refusal 10, in words.
+REASONS = {1: "axis", 2: "role", 3: "what it hangs on", 4: "a byte that must be 0"}
 SIGNS = r"//|::|\.\.|!=|<=|>=|'[^']*'|\"[^\"]*\"|"
 
 # What XPath has and a query has not, by the sign that gives it away.
@@ -117,18 +119,19 @@ class Query:
 
 
 def step_fault(number, record, last_main):
-    """Why a step breaks a rule, or nothing; last_main is the nearest main-path step before it."""
+    """The lowest reason that applies to a step, and why; last_main is the nearest main-path step before it."""
     axis, role, hangs_on, zero3, _, _, zero6, zero7 = record
     faults = [
-        (axis not in AXES, f"axis {axis} is neither 1 (child) nor 2 (descendant)"),
-        (role not in (0, 1), f"byte 1 is {role}, neither 1 (main path) nor 0 (predicate)"),
-        (number == 1 and (role, hangs_on) != (1, 0), "step 1 must be on the main path and hang on 0"),
-        (role == 1 and hangs_on != last_main, f"a main-path step here hangs on {last_main}, not on {hangs_on}"),
-        (role == 0 and not 1 <= hangs_on < number,
+        (1, axis not in AXES, f"axis {axis} is neither 1 (child) nor 2 (descendant)"),
+        (2, role not in (0, 1), f"byte 1 is {role}, neither 1 (main path) nor 0 (predicate)"),
+        (2, number == 1 and role == 0, "step 1 must be on the main path, not in a predicate"),
+        (3, number == 1 and hangs_on != 0, f"step 1 must hang on 0, not on {hangs_on}"),
+        (3, role == 1 and hangs_on != last_main, f"a main-path step here hangs on {last_main}, not on {hangs_on}"),
+        (3, role == 0 and not 1 <= hangs_on < number,
          f"a predicate step here hangs on a step from 1 to {number - 1}, not on {hangs_on}"),
-        (zero3 or zero6 or zero7, "bytes 3, 6 and 7 must be 0"),
+        (4, zero3 or zero6 or zero7, "bytes 3, 6 and 7 must be 0"),
     ]
-    return next((why for broken, why in faults if broken), None)
+    return next(((reason, why) for reason, broken, why in faults if broken), None)
 
 
 def query_fault(data):
@@ -138,9 +141,10 @@ def query_fault(data):
     last_main = 0
     for number in range(1, len(data) // 8 + 1):
         record = data[8 * number - 8:8 * number]
-        why = step_fault(number, record, last_main)
-        if why:
-            return f"refused 10 at {number}: {why}"
+        fault = step_fault(number, record, last_main)
+        if fault:
+            reason, why = fault
+            return f"refused 10 at {number} reason {reason} ({REASONS[reason]}): {why}"
         last_main = number if record[1] == 1 else last_main
     return None
 

@@ -9,19 +9,19 @@ use Prim.Native.Nat.{ℕ, _+_}
 use mathlib.Core.Bool.{cond}
 use mathlib.Core.List.{List, []}
 use lib.Dec.{ltb}
-use Rattle.lines.specs.Text.{endLine, refusedAtLine, refusedLine}
+use Rattle.lines.specs.Text.{endLine, refusedAtLine, refusedForLine, refusedLine}
 use Rattle.meaning.specs.Refusals.{shortRoom, badLength, badStep}
 use Rattle.session.specs.declared.Start.{Start}
 use Rattle.session.specs.declared.Start.the-variants as started
 use Rattle.session.specs.declared.Finish.{Finish}
 use Rattle.session.specs.declared.Finish.the-variants.{Refused, Ended}
 
--- "Refusal 9 is written `refused 9`"; "for 10 the step number"
+-- "Refusal 9 is written `refused 9`, and refusal 10 `refused 10 at K reason N`."
 abbrev pub queryLine : Start → List ℕ
 queryLine started.Begun = []
 queryLine started.ShortRoom = refusedLine shortRoom
 queryLine started.BadLength = refusedLine badLength
-queryLine (started.BadStep k) = refusedAtLine badStep k
+queryLine (started.BadStep k r) = refusedForLine badStep k r
 
 -- "for refusal 8 the number of accepted events"; "`end N` with the number handed out"
 abbrev pub finishLine : Finish → ℕ → List ℕ

@@ -7,7 +7,7 @@ ghost use Rattle.closing.specs.Line.{queryLine, lastLine};
 use session::Finish;
 use session::Start;
 
-// "Refusal 9 is written `refused 9`"; "for 10 the step number". The program lends enough room, so it never writes `refused 15`.
+// "Refusal 9 is written `refused 9`, and refusal 10 `refused 10 at K reason N`." The program lends enough room, so it never writes `refused 15`.
 pub fn query_line(answer: Start, text: &mut [u8]) -> usize
     requires { ⌜ 64 ≤ length (now text) ⌝ }
     ensures { λ r. ⌜ Put (now (text .entry)) 0 (queryLine answer) (now (text .exit)) r ⌝ }
@@ -17,7 +17,9 @@ pub fn query_line(answer: Start, text: &mut [u8]) -> usize
         Start::Begun => 0,
         Start::ShortRoom => lines::put_refused(limits::SHORT_ROOM, text),
         Start::BadLength => lines::put_refused(limits::BAD_LENGTH, text),
-        Start::BadStep(step) => lines::put_refused_at(limits::BAD_STEP, step as u64, text),
+        Start::BadStep(step, reason) => {
+            lines::put_refused_for(limits::BAD_STEP, step as u64, reason, text)
+        }
     }
 }
 

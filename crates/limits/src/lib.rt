@@ -1,4 +1,5 @@
-// The limits of a session and the refusal numbers, each in this one place of the code; crate meaning, Limits and Refusals, has them for the definitions.
+// The limits of a session, the refusal numbers and the reasons, each in this one place of the code; crate meaning, Limits and Refusals, has them for the
+// definitions.
 
 // "A session holds at most 256 open elements and at most 1,024 held nodes"
 pub const DEPTH: usize = 256;
@@ -43,8 +44,20 @@ pub const UNFINISHED: u8 = 8;
 // "query of 0 bytes, of a length not a multiple of 8, or over 256 bytes"
 pub const BAD_LENGTH: u8 = 9;
 
-// "a step breaks a rule; comes with the first such step's number"
+// "a step breaks a rule; comes with the first such step's number, and a reason"
 pub const BAD_STEP: u8 = 10;
+
+// The reasons: "axis"
+pub const BAD_AXIS: u8 = 1;
+
+// "role"
+pub const BAD_ROLE: u8 = 2;
+
+// "what it hangs on"
+pub const BAD_HANG: u8 = 3;
+
+// "a byte that must be 0"
+pub const BAD_ZERO: u8 = 4;
 
 // "the session is stopped"
 pub const ALREADY_STOPPED: u8 = 11;

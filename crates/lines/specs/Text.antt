@@ -2,9 +2,11 @@
 --
 --   line n              the decimal numeral of n on a line of its own
 --   linesOf ns          such a line for each of ns
---   endWord, refusedWord, atWord      the texts "end ", "refused ", " at "
+--   endWord, refusedWord, atWord, reasonWord      the texts "end ", "refused ", " at ", " reason "
 --   endLine n           the line "end N"
+--   refusedAt r e       the text "refused R at E"
 --   refusedAtLine r e   the line "refused R at E"
+--   refusedForLine r e n      the line "refused R at E", with " reason N" before its end
 --   refusedLine r       the line "refused R"
 --
 -- Assumes nothing. NOT here: which lines the program writes when (crate pick), the nodes in list records (crate records, Write), passed on.
@@ -32,13 +34,23 @@ refusedWord = 114 ∷ 101 ∷ 102 ∷ 117 ∷ 115 ∷ 101 ∷ 100 ∷ 32 ∷ []
 abbrev pub atWord : List ℕ
 atWord = 32 ∷ 97 ∷ 116 ∷ 32 ∷ []
 
+abbrev pub reasonWord : List ℕ
+reasonWord = 32 ∷ 114 ∷ 101 ∷ 97 ∷ 115 ∷ 111 ∷ 110 ∷ 32 ∷ []
+
 -- "`end N` with the number handed out"
 unfoldable pub endLine : ℕ → List ℕ
 endLine n = endWord ++ line n
 
+unfoldable pub refusedAt : ℕ → ℕ → List ℕ
+refusedAt r e = refusedWord ++ (decimal r ++ (atWord ++ decimal e))
+
 -- "or `refused R at E`"
 unfoldable pub refusedAtLine : ℕ → ℕ → List ℕ
-refusedAtLine r e = refusedWord ++ (decimal r ++ (atWord ++ line e))
+refusedAtLine r e = refusedAt r e ++ (10 ∷ [])
+
+-- "and refusal 10 `refused 10 at K reason N`"
+unfoldable pub refusedForLine : ℕ → ℕ → ℕ → List ℕ
+refusedForLine r e n = refusedAt r e ++ (reasonWord ++ line n)
 
 -- "Refusal 9 is written `refused 9`."
 unfoldable pub refusedLine : ℕ → List ℕ

@@ -5,7 +5,7 @@ ghost use lib.ListN.{length};
 ghost use Rattle.io.specs.Counts.{Counts};
 ghost use Rattle.lines.specs.Decimal.{decimal};
 ghost use Rattle.lines.specs.Put.{Put};
-ghost use Rattle.lines.specs.Text.{line, linesOf, nodeAt, nodesIn, endLine, refusedAtLine, refusedLine};
+ghost use Rattle.lines.specs.Text.{line, linesOf, nodeAt, nodesIn, endLine, refusedAt, refusedAtLine, refusedForLine, refusedLine};
 
 // How many digits the number has.
 fn width(n: u64) -> usize
@@ -105,16 +105,36 @@ pub fn put_end(n: u64, text: &mut [u8]) -> usize
     put_line(n, at, text)
 }
 
+// `refused R at E`, with nothing behind it.
+fn put_refusal(r: u8, e: u64, text: &mut [u8]) -> usize
+    requires { ⌜ 64 ≤ length (now text) ⌝ }
+    ensures { λ k. ⌜ Put (now (text .entry)) 0 (refusedAt r e) (now (text .exit)) k ⌝ }
+{
+    let number = put_word(b"refused ", 0, text);
+    let word = put_number(wide(r), number, text);
+    let at = put_word(b" at ", word, text);
+    put_number(e, at, text)
+}
+
 // "`refused R at E`"
 pub fn put_refused_at(r: u8, e: u64, text: &mut [u8]) -> usize
     requires { ⌜ 64 ≤ length (now text) ⌝ }
     ensures { λ k. ⌜ Put (now (text .entry)) 0 (refusedAtLine r e) (now (text .exit)) k ⌝ }
     ensures { λ k. ⌜ Counts k (now (text .exit)) ⌝ }
 {
-    let number = put_word(b"refused ", 0, text);
-    let word = put_number(wide(r), number, text);
-    let at = put_word(b" at ", word, text);
-    put_line(e, at, text)
+    let end = put_refusal(r, e, text);
+    put_word(b"\n", end, text)
+}
+
+// "and refusal 10 `refused 10 at K reason N`"
+pub fn put_refused_for(r: u8, e: u64, reason: u8, text: &mut [u8]) -> usize
+    requires { ⌜ 64 ≤ length (now text) ⌝ }
+    ensures { λ k. ⌜ Put (now (text .entry)) 0 (refusedForLine r e reason) (now (text .exit)) k ⌝ }
+    ensures { λ k. ⌜ Counts k (now (text .exit)) ⌝ }
+{
+    let end = put_refusal(r, e, text);
+    let number = put_word(b" reason ", end, text);
+    put_line(wide(reason), number, text)
 }
 
 // "Refusal 9 is written `refused 9`."

@@ -1,9 +1,10 @@
--- The refusal numbers, each in this one place, and the order in which they are given.
+-- The refusal numbers and the reasons, each in this one place, and the order in which refusals are given.
 --
 --   shortOutput, badRecord, afterEnd, wrongClose, tooDeep, tooManyNodes, tooManyHeld, shortRoom      an event's
 --   unfinished                finish's
 --   alreadyStopped            an event's and finish's
 --   badLength, badStep        the query's (crate query)
+--   badAxis, badRole, badHang, badZero, forbidden      the reasons that come with badStep (crate query, Reasons)
 --   rank r                    where refusal r comes among the refusals: of those that apply, the one with the lowest rank is given
 --   stops r                   a session that has given refusal r is stopped
 --
@@ -49,7 +50,7 @@ unfinished = 8
 abbrev pub badLength : ℕ
 badLength = 9
 
--- "a step breaks a rule; comes with the first such step's number"
+-- "a step breaks a rule; comes with the first such step's number, and a reason"
 abbrev pub badStep : ℕ
 badStep = 10
 
@@ -60,6 +61,26 @@ alreadyStopped = 11
 -- "lent room under 16,384 bytes for the open elements or under 32,768 bytes for the waiting nodes"
 abbrev pub shortRoom : ℕ
 shortRoom = 15
+
+-- the reasons: "axis"
+abbrev pub badAxis : ℕ
+badAxis = 1
+
+-- "role"
+abbrev pub badRole : ℕ
+badRole = 2
+
+-- "what it hangs on"
+abbrev pub badHang : ℕ
+badHang = 3
+
+-- "a byte that must be 0"
+abbrev pub badZero : ℕ
+badZero = 4
+
+-- "a forbidden name or value"
+abbrev pub forbidden : ℕ
+forbidden = 5
 
 -- "The lowest number that applies is given", but that 15 "comes directly after 1 and before all others", and 11 directly after 15: between 1, at 3, and 2,
 -- at 6

@@ -30,7 +30,7 @@ use Rattle.meaning.specs.Standing.{listed}
 use Rattle.meaning.specs.Offering.{Offering, offeringAll}
 use Rattle.query.specs.Answer.{Answer, admitted, refused, refusedAt, answerTo}
 use Rattle.query.specs.Decode.{decode}
-use Rattle.lines.specs.Text.{linesOf, endLine, refusedAtLine, refusedLine}
+use Rattle.lines.specs.Text.{linesOf, endLine, refusedAtLine, refusedForLine, refusedLine}
 use Rattle.system.specs.declared.File.{File}
 use Rattle.system.specs.Marks.{FileOpened, FileClosed, ReadOver, Received, Delivered, Failed}
 
@@ -53,7 +53,7 @@ textOf q w = linesOf (listed q (document (w .events))) ++ lastLineOf q w
 unfoldable pub owedOutputBy : Answer → List ℕ → List ℕ → List ℕ
 owedOutputBy admitted qs es = textOf (decode qs) (offeringAll (decode qs) es)
 owedOutputBy (refused n) qs es = refusedLine n
-owedOutputBy (refusedAt n k) qs es = refusedAtLine n k
+owedOutputBy (refusedAt n k r) qs es = refusedForLine n k r
 
 abbrev pub owedOutput : List ℕ → List ℕ → List ℕ
 owedOutput qs es = owedOutputBy (answerTo qs) qs es

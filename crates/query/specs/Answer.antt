@@ -1,8 +1,8 @@
 -- What the query check answers, in document 01's numbers.
 --
---   Answer               admitted, or refused by a number, or refused by a number at a step
+--   Answer               admitted, or refused by a number, or refused by a number at a step for a reason
 --   said a               the answer that a case of the code's enum stands for
---   FirstBreaking q k    the length is right, step k breaks a rule and no earlier step does
+--   FirstBreaking q k r  the length is right, step k is the first that breaks a rule, reason r applies to it and no lower one does
 --   Kept q               the length is right and every step keeps every rule
 --   Owed q a             a is the answer that document 01 gives q
 --   judgedFrom q n s     the answer of n steps, of which the first has s steps before it: the first that breaks a rule decides
@@ -10,34 +10,39 @@
 --   answerTo q           the answer to the bytes q
 --   CheckGives q r       THE PROMISE of `check`: r, as it stands for an answer, is the answer to q
 --
--- Assumes nothing. NOT here: the rules (Rules); that `answerTo` gives exactly what is owed (Answer.Laws).
+-- Assumes nothing. NOT here: the rules (Rules) and the reasons (Reasons); that `answerTo` gives exactly what is owed (Answer.Laws).
 pub mod Laws
-use Prim.Native.Nat.{ℕ, zero, suc, _<_}
+use Prim.Native.Nat.{ℕ, zero, suc, _≤_, _<_}
 use mathlib.Core.Path.{_≡_}
 use mathlib.Core.Bool.{Bool, true, false}
 use mathlib.Core.List.{List}
+use mathlib.Core.Option.{Option, none, some}
 use lib.ListN.{length}
 use Rattle.meaning.specs.Refusals.{badLength, badStep}
+use Rattle.meaning.specs.Table.{first}
 use Rattle.query.specs.Rules.{wrongLength, steps, keeps}
+use Rattle.query.specs.Reasons.{Applies, reasons}
 use Rattle.query.specs.declared.QueryAnswer.{QueryAnswer}
 use Rattle.query.specs.declared.QueryAnswer.the-variants.{Admitted, BadLength, BadStep}
 
 pub data Answer : Type 0 where
   admitted : Answer
   refused : (number : ℕ) → Answer
-  refusedAt : (number step : ℕ) → Answer
+  refusedAt : (number step reason : ℕ) → Answer
 
 unfoldable pub said : QueryAnswer → Answer
 said Admitted = admitted
 said BadLength = refused badLength
-said (BadStep k) = refusedAt badStep k
+said (BadStep k r) = refusedAt badStep k r
 
-pub record FirstBreaking (q : List ℕ) (k : ℕ) : Type 0 where
+-- "With refusal 10 comes a reason, the lowest that applies to the first step at fault."
+pub record FirstBreaking (q : List ℕ) (k r : ℕ) : Type 0 where
   pub right : wrongLength (length q) ≡ false
   pub before : ℕ
   pub number : k ≡ suc before
   pub there : before < steps q
-  pub breaks : keeps q before ≡ false
+  pub applies : Applies q before r
+  pub lowest : (t : ℕ) → Applies q before t → r ≤ t
   pub earlier : (s : ℕ) → s < before → keeps q s ≡ true
 
 pub record Kept (q : List ℕ) : Type 0 where
@@ -47,17 +52,17 @@ pub record Kept (q : List ℕ) : Type 0 where
 abbrev pub Owed : List ℕ → Answer → Type 0
 Owed q admitted = Kept q
 Owed q (refused n) = (n ≡ badLength) × (wrongLength (length q) ≡ true)
-Owed q (refusedAt n k) = (n ≡ badStep) × FirstBreaking q k
+Owed q (refusedAt n k r) = (n ≡ badStep) × FirstBreaking q k r
 
 -- the same as a computation
 
-unfoldable pub ifKept : Bool → ℕ → Answer → Answer
-ifKept true k rest = rest
-ifKept false k rest = refusedAt badStep k
+unfoldable pub ifNone : Option ℕ → ℕ → Answer → Answer
+ifNone none k rest = rest
+ifNone (some r) k rest = refusedAt badStep k r
 
 unfoldable pub judgedFrom : List ℕ → ℕ → ℕ → Answer
 judgedFrom q zero s = admitted
-judgedFrom q (suc n) s = ifKept (keeps q s) (suc s) (judgedFrom q n (suc s))
+judgedFrom q (suc n) s = ifNone (first (reasons q s)) (suc s) (judgedFrom q n (suc s))
 
 unfoldable pub judged : List ℕ → Answer
 judged q = judgedFrom q (steps q) 0

@@ -18,7 +18,7 @@ use lib.ListN.{length}
 pub use Rattle.meaning.specs.Record.{Bytes}
 use Rattle.meaning.specs.Query.{Axis, child, descendant, Step, Query, admits}
 use Rattle.query.specs.Rules.{stepBytes, mostSteps, wrongLength, steps, stepOf, axisByte, roleByte}
-use Rattle.query.specs.Rules.{onByte, nameNumber, isMain, axisNamed, axisRule, roleRule, zeroRule}
+use Rattle.query.specs.Rules.{onByte, nameNumber, isMain, isRole, axisNamed, axisRule, zeroRule}
 use Rattle.query.specs.declared.AxisByte.{AxisByte}
 use Rattle.query.specs.declared.AxisByte.the-variants.{Child, Descendant, Unknown}
 
@@ -47,5 +47,5 @@ pub record Meant (q : List ℕ) : Type 0 where
 pub record Shaped (q : List ℕ) : Type 0 where
   pub right : wrongLength (length q) ≡ false
   pub axis : (s : ℕ) → s < steps q → axisRule (axisByte (stepOf q s)) ≡ true
-  pub role : (s : ℕ) → s < steps q → roleRule (roleByte (stepOf q s)) ≡ true
+  pub role : (s : ℕ) → s < steps q → isRole (roleByte (stepOf q s)) ≡ true
   pub zero : (s : ℕ) → s < steps q → zeroRule (stepOf q s) ≡ true

@@ -14,8 +14,10 @@ use mathlib.Core.Bool.{true, false}
 use mathlib.Core.List.{List, [], _∷_, _++_, map}
 use Rattle.meaning.specs.Query.{child, descendant, Query, nearer}
 use Rattle.meaning.specs.Refusals.{badLength, badStep}
-use Rattle.query.specs.Rules.{laterRule, nearest, hangRule, keeps}
-use Rattle.query.specs.Answer.{Answer, admitted, refused, refusedAt, ifKept, judgedFrom, judged, ifWrong, answerTo}
+use Rattle.meaning.specs.Table.{firstOr, first}
+use Rattle.query.specs.Rules.{laterRule, nearest, hangRule}
+use Rattle.query.specs.Reasons.{reasonsBy, reasons}
+use Rattle.query.specs.Answer.{Answer, admitted, refused, refusedAt, ifNone, judgedFrom, judged, ifWrong, answerTo}
 use Rattle.query.specs.Decode.{axisMeant, decodeStep, decodeFrom, decode}
 
 abbrev pub step : ℕ → ℕ → ℕ → ℕ → List ℕ
@@ -45,32 +47,37 @@ rows =
     ∷ ([] gets refused badLength)
     ∷ (1 ∷ 1 ∷ 0 ∷ 0 ∷ 0 ∷ 1 ∷ 0 ∷ [] gets refused badLength)
     -- axis, role
-    ∷ (step 0 1 0 1 gets refusedAt badStep 1)
-    ∷ (step 3 1 0 1 gets refusedAt badStep 1)
-    ∷ (step 1 1 0 1 ++ step 1 2 1 2 gets refusedAt badStep 2)
-    -- step 1 a predicate; step 1 not on 0
-    ∷ (step 1 0 0 1 gets refusedAt badStep 1)
-    ∷ (step 1 1 1 1 gets refusedAt badStep 1)
+    ∷ (step 0 1 0 1 gets refusedAt badStep 1 1)
+    ∷ (step 3 1 0 1 gets refusedAt badStep 1 1)
+    ∷ (step 1 1 0 1 ++ step 1 2 1 2 gets refusedAt badStep 2 2)
+    -- "Step 1 in a predicate is a fault of its role, whatever it hangs on"; step 1 not on 0
+    ∷ (step 1 0 0 1 gets refusedAt badStep 1 2)
+    ∷ (step 1 0 1 1 gets refusedAt badStep 1 2)
+    ∷ (step 1 1 1 1 gets refusedAt badStep 1 3)
     -- a main-path step on the step before it, which is a predicate; on an earlier main-path step; on 0
-    ∷ (step 1 1 0 1 ++ step 1 0 1 2 ++ step 1 1 2 3 gets refusedAt badStep 3)
-    ∷ (chain 2 0 ++ step 1 1 1 3 gets refusedAt badStep 3)
-    ∷ (step 1 1 0 1 ++ step 1 1 0 2 gets refusedAt badStep 2)
+    ∷ (step 1 1 0 1 ++ step 1 0 1 2 ++ step 1 1 2 3 gets refusedAt badStep 3 3)
+    ∷ (chain 2 0 ++ step 1 1 1 3 gets refusedAt badStep 3 3)
+    ∷ (step 1 1 0 1 ++ step 1 1 0 2 gets refusedAt badStep 2 3)
     -- a predicate on 0, on itself, on a later step; on a predicate
-    ∷ (step 1 1 0 1 ++ step 1 0 0 2 gets refusedAt badStep 2)
-    ∷ (step 1 1 0 1 ++ step 1 0 2 2 gets refusedAt badStep 2)
-    ∷ (step 1 1 0 1 ++ step 1 0 3 2 ++ step 1 0 1 2 gets refusedAt badStep 2)
+    ∷ (step 1 1 0 1 ++ step 1 0 0 2 gets refusedAt badStep 2 3)
+    ∷ (step 1 1 0 1 ++ step 1 0 2 2 gets refusedAt badStep 2 3)
+    ∷ (step 1 1 0 1 ++ step 1 0 3 2 ++ step 1 0 1 2 gets refusedAt badStep 2 3)
     ∷ (step 1 1 0 1 ++ step 1 0 1 2 ++ step 2 0 2 3 gets admitted)
     -- bytes 3, 6 and 7
-    ∷ (1 ∷ 1 ∷ 0 ∷ 1 ∷ 0 ∷ 1 ∷ 0 ∷ 0 ∷ [] gets refusedAt badStep 1)
-    ∷ (1 ∷ 1 ∷ 0 ∷ 0 ∷ 0 ∷ 1 ∷ 1 ∷ 0 ∷ [] gets refusedAt badStep 1)
-    ∷ (1 ∷ 1 ∷ 0 ∷ 0 ∷ 0 ∷ 1 ∷ 0 ∷ 1 ∷ [] gets refusedAt badStep 1)
-    -- the first of two steps at fault, and the length before both
-    ∷ (step 1 1 0 1 ++ step 1 0 0 2 ++ step 9 1 1 3 gets refusedAt badStep 2)
+    ∷ (1 ∷ 1 ∷ 0 ∷ 1 ∷ 0 ∷ 1 ∷ 0 ∷ 0 ∷ [] gets refusedAt badStep 1 4)
+    ∷ (1 ∷ 1 ∷ 0 ∷ 0 ∷ 0 ∷ 1 ∷ 1 ∷ 0 ∷ [] gets refusedAt badStep 1 4)
+    ∷ (1 ∷ 1 ∷ 0 ∷ 0 ∷ 0 ∷ 1 ∷ 0 ∷ 1 ∷ [] gets refusedAt badStep 1 4)
+    -- the lowest of the reasons: all four; all but the axis; what it hangs on and a byte that must be 0
+    ∷ (9 ∷ 9 ∷ 9 ∷ 9 ∷ 0 ∷ 1 ∷ 0 ∷ 0 ∷ [] gets refusedAt badStep 1 1)
+    ∷ (step 1 1 0 1 ++ 1 ∷ 9 ∷ 9 ∷ 9 ∷ 0 ∷ 1 ∷ 0 ∷ 0 ∷ [] gets refusedAt badStep 2 2)
+    ∷ (step 1 1 0 1 ++ 1 ∷ 1 ∷ 9 ∷ 9 ∷ 0 ∷ 1 ∷ 0 ∷ 0 ∷ [] gets refusedAt badStep 2 3)
+    -- the first of two steps at fault, though the later has a lower reason, and the length before both
+    ∷ (step 1 1 0 1 ++ step 1 0 0 2 ++ step 9 1 1 3 gets refusedAt badStep 2 3)
     ∷ (step 9 1 0 1 ++ 1 ∷ [] gets refused badLength)
     ∷ []
 
 pub rows-right : map (λ (r : CheckRow). answerTo (r .bytes)) rows ≡ map (λ (r : CheckRow). r .answer) rows
-unfolding nearer laterRule nearest hangRule keeps ifKept judgedFrom judged ifWrong answerTo
+unfolding nearer laterRule nearest hangRule reasonsBy reasons firstOr first ifNone judgedFrom judged ifWrong answerTo
 rows-right = refl
 
 abbrev pub p1Query : Query

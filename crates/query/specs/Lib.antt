@@ -1,4 +1,5 @@
 pub mod Rules
+pub mod Reasons
 pub mod Answer
 pub mod Decode
 pub mod Examples

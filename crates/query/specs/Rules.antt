@@ -10,14 +10,14 @@
 --   isMain r             r is on the main path
 --   axisNamed b          the case that the axis byte b names
 --   axisRule b           the axis byte b names an axis
---   roleRule b           the role byte b is one of the two
+--   isRole b             the role byte b is one of the two
+--   roleRule k b         step k may have the role byte b
 --   nearest q s          the nearest main-path step among the first s steps, 0 where there is none
 --   hangRule q s         the step that has s steps before it hangs where it may; laterRule: the same where it is not step 1
 --   zeroRule r           the bytes that have to be 0 are
 --   keeps q s            the step that has s steps before it keeps every rule
---   keepsWith r k near   the same of a record alone: step k is r, and near is the nearest main-path step before it
 --
--- Assumes nothing. NOT here: which answer a query gets (Answer), what it means (Decode), laws (Rules.Laws).
+-- Assumes nothing. NOT here: which reason a step at fault gets (Reasons) and which answer a query (Answer), what it means (Decode), laws (Rules.Laws).
 pub mod Laws
 pub mod Nearest
 use Prim.Native.Nat.{ℕ, zero, suc, _+_, _*_, _/_, _%_, _≤_, _<_}
@@ -26,7 +26,7 @@ use mathlib.Core.Bool.{Bool, true, false, not, _&&_, _||_}
 use mathlib.Core.List.{List}
 use lib.Dec.{eqb, leb, ltb}
 use lib.ListN.{length, getD, take, drop}
-use Rattle.meaning.specs.Query.{hangsRight, nearer}
+use Rattle.meaning.specs.Query.{nearer}
 use Rattle.query.specs.declared.AxisByte.{AxisByte}
 use Rattle.query.specs.declared.AxisByte.the-variants.{Child, Descendant, Unknown}
 
@@ -94,8 +94,12 @@ abbrev pub axisRule : ℕ → Bool
 axisRule b = isKnown (axisNamed b)
 
 -- "1 on the main path, 0 in a predicate"
-abbrev pub roleRule : ℕ → Bool
-roleRule b = eqb b 1 || eqb b 0
+abbrev pub isRole : ℕ → Bool
+isRole b = eqb b 1 || eqb b 0
+
+-- "Step 1 is on the main path"
+abbrev pub roleRule : ℕ → ℕ → Bool
+roleRule k b = isRole b && (eqb b 1 || ltb 1 k)
 
 unfoldable pub nearest : List ℕ → ℕ → ℕ
 nearest q zero = 0
@@ -117,7 +121,5 @@ abbrev pub zeroRule : List ℕ → Bool
 zeroRule r = eqb (getD r 3 0) 0 && (eqb (getD r 6 0) 0 && eqb (getD r 7 0) 0)
 
 unfoldable pub keeps : List ℕ → ℕ → Bool
-keeps q s = axisRule (axisByte (stepOf q s)) && (roleRule (roleByte (stepOf q s)) && (hangRule q s && zeroRule (stepOf q s)))
-
-unfoldable pub keepsWith : List ℕ → ℕ → ℕ → Bool
-keepsWith r k near = axisRule (axisByte r) && (roleRule (roleByte r) && (hangsRight (isMain r) (onByte r) k near && zeroRule r))
+keeps q s =
+    axisRule (axisByte (stepOf q s)) && (roleRule (suc s) (roleByte (stepOf q s)) && (hangRule q s && zeroRule (stepOf q s)))

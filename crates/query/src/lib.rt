@@ -2,7 +2,8 @@
 ghost use mathlib.Core.Path.{_≡_};
 ghost use lib.ListN.{length};
 ghost use Rattle.meaning.specs.Query.{hangsRight, nearer};
-ghost use Rattle.query.specs.Rules.{stepBytes, wrongLength, Right, axisNamed, axisRule, roleRule, zeroRule, keepsWith};
+ghost use Rattle.query.specs.Rules.{stepBytes, wrongLength, Right, axisNamed, axisRule, roleRule, zeroRule};
+ghost use Rattle.query.specs.Reasons.{reasonsBy, reasonsWith, lowest};
 ghost use Rattle.query.specs.Answer.{CheckGives, judged, said};
 
 // What the check answers. `said` of specs/Answer.antt gives each case its number.
@@ -11,8 +12,8 @@ pub enum QueryAnswer {
     Admitted,
     // 9: "query of 0 bytes, of a length not a multiple of 8, or over 256 bytes"
     BadLength,
-    // 10: "a step breaks a rule; comes with the first such step's number"
-    BadStep(u8),
+    // 10: "a step breaks a rule; comes with the first such step's number, and a reason"
+    BadStep(u8, u8),
 }
 
 // What an axis byte names.
@@ -64,8 +65,9 @@ fn judge(query: &[u8]) -> QueryAnswer
         let k = passed + 1;
         let end = at + STEP_BYTES;
         let step = &query[at..end];
-        if !keeps_rules(step, k, near) {
-            return QueryAnswer::BadStep(k);
+        let reason = reason_at(step, k, near);
+        if reason != 0 {
+            return QueryAnswer::BadStep(k, reason);
         }
         near = nearer_main(step[1] == 1, k, near);
         passed = k;
@@ -81,19 +83,35 @@ fn nearer_main(main: bool, k: u8, near: u8) -> u8
     if main { k } else { near }
 }
 
-// Whether step k keeps every rule, `near` being the nearest main-path step before it, 0 where there is none.
-fn keeps_rules(step: &[u8], k: u8, near: u8) -> bool
+// Why step k is at fault, 0 where it keeps every rule; `near` is the nearest main-path step before it, 0 where there is none.
+fn reason_at(step: &[u8], k: u8, near: u8) -> u8
     requires { ⌜ length (now step) ≡ stepBytes ⌝ }
-    ensures { λ r. ⌜ r ≡ keepsWith (now (step .entry)) k near ⌝ }
+    ensures { λ r. ⌜ r ≡ lowest (reasonsWith (now (step .entry)) k near) ⌝ }
 {
-    if keeps_axis_rule(step[0]) {
-        if keeps_role_rule(step[1]) {
-            if keeps_hang_rule(step[1] == 1, step[2], k, near) {
-                return keeps_zero_rule(step);
-            }
-        }
+    let axis = keeps_axis_rule(step[0]);
+    let role = keeps_role_rule(step[1], k);
+    let hang = keeps_hang_rule(step[1] == 1, step[2], k, near);
+    let zero = keeps_zero_rule(step);
+    lowest_reason(axis, role, hang, zero)
+}
+
+// The lowest reason that applies, by which rules are kept; 0 where all are. No name and no value is forbidden yet: nothing gives 5.
+fn lowest_reason(axis: bool, role: bool, hang: bool, zero: bool) -> u8
+    ensures { λ r. ⌜ r ≡ lowest (reasonsBy axis role hang zero) ⌝ }
+{
+    if !axis {
+        return limits::BAD_AXIS;
     }
-    false
+    if !role {
+        return limits::BAD_ROLE;
+    }
+    if !hang {
+        return limits::BAD_HANG;
+    }
+    if !zero {
+        return limits::BAD_ZERO;
+    }
+    0
 }
 
 fn keeps_axis_rule(byte: u8) -> bool
@@ -118,12 +136,13 @@ pub fn axis_named(byte: u8) -> AxisByte
     }
 }
 
-fn keeps_role_rule(byte: u8) -> bool
-    ensures { λ r. ⌜ r ≡ roleRule byte ⌝ }
+// Whether step k may have this role byte: "Step 1 is on the main path"
+fn keeps_role_rule(byte: u8, k: u8) -> bool
+    ensures { λ r. ⌜ r ≡ roleRule k byte ⌝ }
 {
     match byte {
         1 => true,
-        0 => true,
+        0 => 1 < k,
         _ => false,
     }
 }

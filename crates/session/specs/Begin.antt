@@ -35,7 +35,7 @@ unfoldable pub said : start.Start → Answer
 said started.Begun = admitted
 said started.ShortRoom = refused shortRoom
 said started.BadLength = refused badLength
-said (started.BadStep k) = refusedAt badStep k
+said (started.BadStep k r) = refusedAt badStep k r
 
 pub record Begun : Type 0 where
   pub answer : Answer
@@ -49,7 +49,7 @@ startAnswer q E N = when (tooSmall (length E) (length N)) (refused shortRoom) (a
 unfoldable pub sessionFor : Answer → List ℕ → Session
 sessionFor admitted q = fresh (planOf q)
 sessionFor (refused n) q = fresh (planOf [])
-sessionFor (refusedAt n k) q = fresh (planOf [])
+sessionFor (refusedAt n k r) q = fresh (planOf [])
 
 unfoldable pub begun : List ℕ → List ℕ → List ℕ → Begun
 begun q E N = record { answer = startAnswer q E N; session = sessionFor (startAnswer q E N) q }

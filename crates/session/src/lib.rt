@@ -49,7 +49,7 @@ pub enum Start {
     Begun,
     ShortRoom,
     BadLength,
-    BadStep(u8),
+    BadStep(u8, u8),
 }
 
 // "beside a refused query's number stands one fixed blank session"
@@ -110,8 +110,8 @@ pub fn begin(query: &[u8], elements: &[u8], nodes: &[u8]) -> Begun
             answer: Start::BadLength,
             session: blank,
         },
-        QueryAnswer::BadStep(k) => Begun {
-            answer: Start::BadStep(k),
+        QueryAnswer::BadStep(k, reason) => Begun {
+            answer: Start::BadStep(k, reason),
             session: blank,
         },
     }

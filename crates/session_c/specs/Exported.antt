@@ -46,7 +46,7 @@ pub record Began : Type 0 where
 unfoldable pub startedBy : query.Answer → Session → List ℕ → List ℕ
 startedBy query.admitted t S = sessionBytes t
 startedBy (query.refused n) t S = S
-startedBy (query.refusedAt n k) t S = S
+startedBy (query.refusedAt n k r) t S = S
 
 abbrev pub beganWith : List ℕ → Begun → Began
 beganWith S b = record { number = packed (b .answer); session = startedBy (b .answer) (b .session) S }

@@ -97,11 +97,14 @@ fn answer_begin(answer: Start, first: Session, room: &mut [u8]) -> u64
         }
         Start::ShortRoom => limits::SHORT_ROOM as u64,
         Start::BadLength => limits::BAD_LENGTH as u64,
-        Start::BadStep(k) => limits::BAD_STEP as u64 + 256 * (k as u64),
+        Start::BadStep(k, reason) => {
+            limits::BAD_STEP as u64 + 256 * (k as u64) + 65536 * (reason as u64)
+        }
     }
 }
 
-// A session for a query, in the 312 bytes of `session`, whatever they held: 0, or the refusal's number, and 256 times the step's number with it.
+// A session for a query, in the 312 bytes of `session`, whatever they held: 0, or the refusal's number, and with 10 256 times the number of the first step at
+// fault and 65,536 times the reason, as `compassflare_check` answers (crate query_c).
 #[no_mangle]
 pub extern "C" fn compassflare_begin(
     query: &[u8],

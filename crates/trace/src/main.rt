@@ -180,24 +180,12 @@ fn offer_all(
     offered.session
 }
 
+// The line that answers a refused query, as the program writes it; whether there is none.
 fn say_query(answer: Start) -> bool {
-    match answer {
-        Start::Begun => true,
-        Start::ShortRoom => {
-            say(b"refused 15\n");
-            false
-        }
-        Start::BadLength => {
-            say(b"refused 9\n");
-            false
-        }
-        Start::BadStep(step) => {
-            say(b"refused 10 at ");
-            say_number(step as u64);
-            say(b"\n");
-            false
-        }
-    }
+    let mut text = [0u8; 64];
+    let end = closing::query_line(answer, &mut text);
+    say(&text[..end]);
+    end == 0
 }
 
 // A session for the query, by what is lent at the start.

@@ -33,14 +33,14 @@ fn say_number(n: u64) {
     io::print_decimal(libc::STDOUT_FILENO, n);
 }
 
-// What begin answers.
+// What begin answers: the program's line where it is refused.
 fn say_begun(answer: Start) {
-    match answer {
-        Start::Begun => say(b"taken\n"),
-        Start::ShortRoom => say(b"refused 15\n"),
-        Start::BadLength => say(b"refused 9\n"),
-        Start::BadStep(_) => say(b"refused 10\n"),
+    let mut text = [0u8; 64];
+    let end = closing::query_line(answer, &mut text);
+    if end == 0 {
+        say(b"taken\n");
     }
+    say(&text[..end]);
 }
 
 fn say_run(run: Run) {

@@ -241,39 +241,71 @@ fn damage(chance: &mut Chance, records: &mut Vec<Vec<u8>>, place: usize) {
 fn damaged_query(chance: &mut Chance) -> Case {
     let case = base(chance);
     let mut query = case.seen().0.to_vec();
-    match chance.between(0, 6) {
-        0 => {
-            let place = chance.between(0, query.len() - 1);
-            query[place] = chance.byte();
+    match chance.between(0, 15) {
+        0..=5 => change_byte(chance, &mut query),
+        6 => {
+            let steps = if chance.percent(50) { 1 } else { chance.between(2, 8) };
+            query = write(&any(chance, &waiting::NAMES, MOST_STEPS + steps));
         }
-        1 => {
-            let place = chance.between(0, query.len() - 1);
-            query[place] ^= 1 << chance.between(0, 7);
-        }
-        2 => {
-            // The small numbers that mean something in some place, put into another.
-            let place = chance.between(0, query.len() / 8 - 1) * 8 + chance.between(0, 3);
-            query[place] = chance.between(0, 4) as u8;
-        }
-        3 => {
-            // A step that hangs on another one than before, or on itself.
-            let step = chance.between(1, query.len() / 8);
-            query[8 * step - 6] = chance.between(0, step) as u8;
-        }
-        4 => {
-            let steps = chance.between(MOST_STEPS + 1, MOST_STEPS + 8);
-            query = write(&any(chance, &waiting::NAMES, steps));
-        }
-        5 => {
+        7 => {
             let length = chance.between(0, query.len() + 9);
             query.resize(length, 0);
         }
-        _ => {
+        8 => {
             let again = query.clone();
             query.extend(again);
         }
+        9 => {
+            // Step 1 in a predicate, whatever it hangs on.
+            query[1] = 0;
+            query[2] = chance.between(0, 2) as u8;
+        }
+        _ => break_rules(chance, &mut query),
     }
     Case { kind: Kind::DamagedQuery, query: Some(query), ..case }
+}
+
+fn change_byte(chance: &mut Chance, query: &mut [u8]) {
+    let any = chance.between(0, query.len() - 1);
+    // Any step, or the last on the main path, which may hang on one step alone.
+    let last = query.chunks(8).rposition(|record| record[1] == 1).map_or(1, |place| place + 1);
+    let step = if chance.percent(50) { last } else { chance.between(1, query.len() / 8) };
+    match chance.between(0, 5) {
+        0 => query[any] = chance.byte(),
+        1 => query[any] ^= 1 << chance.between(0, 7),
+        // The small numbers that mean something in some place, put into another.
+        2 => query[8 * (step - 1) + chance.between(0, 3)] = chance.between(0, 4) as u8,
+        // A step that hangs on another one than before, or on itself.
+        _ => query[8 * (step - 1) + 2] = chance.between(0, step) as u8,
+    }
+}
+
+/// What is broken in a step, by the reasons: each rule alone, every two of them, and all.
+const BROKEN: [&[u8]; 11] =
+    [&[1], &[2], &[3], &[4], &[1, 2], &[1, 3], &[1, 4], &[2, 3], &[2, 4], &[3, 4], &[1, 2, 3, 4]];
+
+/// Breaks rules of one step or of two: of several reasons the lowest counts, and of several steps the first.
+fn break_rules(chance: &mut Chance, query: &mut [u8]) {
+    for _ in 0..chance.between(1, 2) {
+        // Step 1 has rules of its own.
+        let step = if chance.percent(30) { 1 } else { chance.between(1, query.len() / 8) };
+        for reason in *chance.pick(&BROKEN) {
+            break_rule(chance, &mut query[8 * (step - 1)..8 * step], step, *reason);
+        }
+    }
+}
+
+/// Breaks the rule of a reason in the record of the step with this number.
+fn break_rule(chance: &mut Chance, record: &mut [u8], step: usize, reason: u8) {
+    match reason {
+        1 => record[0] = *chance.pick(&[0, 3, 255]),
+        2 if step == 1 => record[1] = *chance.pick(&[0, 2]),
+        2 => record[1] = *chance.pick(&[2, 255]),
+        // Only step 1 hangs on the document, and none on itself.
+        3 if step == 1 => record[2] = *chance.pick(&[1, 2]),
+        3 => record[2] = *chance.pick(&[0, step as u8]),
+        _ => record[*chance.pick(&[3, 6, 7])] = chance.between(1, 255) as u8,
+    }
 }
 
 fn truncated(chance: &mut Chance) -> Case {

@@ -40,7 +40,7 @@ fn only(call: &Call, stopped: bool) -> Option<u64> {
         Kind::Begin => Some(match (lengths.room().refusal(), Query::read(bytes)) {
             (Some(refusal), _) => refusal.into(),
             (_, Err(Refused::Length)) => 9,
-            (_, Err(Refused::Step(step))) => 10 + 256 * step as u64,
+            (_, Err(Refused::Step { number, reason })) => 10 + 256 * number as u64 + 65_536 * u64::from(reason),
             (_, Ok(_)) => 0,
         }),
         Kind::Event => match lengths.lent().refusal() {

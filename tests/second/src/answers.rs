@@ -73,7 +73,7 @@ pub fn program(form: Form, query: &[u8], events: &[u8]) -> String {
     let query = match Query::read(query) {
         Ok(query) => query,
         Err(Refused::Length) => return "refused 9\n".into(),
-        Err(Refused::Step(step)) => return format!("refused 10 at {step}\n"),
+        Err(Refused::Step { number, reason }) => return format!("refused 10 at {number} reason {reason}\n"),
     };
     let run = form.run(&query, events, Lending::ENOUGH, AfterRefusal::Leave);
     let mut text = String::new();

@@ -29,8 +29,9 @@ pub struct Query {
 pub enum Refused {
     /// Refusal 9.
     Length,
-    /// Refusal 10, with the number of the first step that breaks a rule.
-    Step(usize),
+    /// Refusal 10: "a step breaks a rule; comes with the first such step's number, and a reason". The reason is 1 for its
+    /// axis, 2 for its role, 3 for what it hangs on and 4 for a byte that must be 0.
+    Step { number: usize, reason: u8 },
 }
 
 impl Query {
@@ -41,9 +42,9 @@ impl Query {
         }
         let mut steps: Vec<Step> = Vec::new();
         for record in bytes.chunks(8) {
-            match step(record).filter(|s| hangs_well(s, &steps)) {
-                Some(s) => steps.push(s),
-                None => return Err(Refused::Step(steps.len() + 1)),
+            match step(record, &steps) {
+                Ok(s) => steps.push(s),
+                Err(reason) => return Err(Refused::Step { number: steps.len() + 1, reason }),
             }
         }
         Ok(Query { steps })
@@ -76,20 +77,28 @@ impl Query {
     }
 }
 
-/// A step's record read byte by byte; nothing if a byte has a value that its place does not allow.
-fn step(record: &[u8]) -> Option<Step> {
-    let &[axis, role, hangs_on, 0, high, low, 0, 0] = record else { return None };
-    let axis = match axis {
+/// The step of a record, `earlier` being the steps before it, or the reason why it is at fault. The bytes are read in the order
+/// of the reasons, so the reason is the lowest that applies.
+fn step(record: &[u8], earlier: &[Step]) -> Result<Step, u8> {
+    let axis = match record[0] {
         1 => Axis::Child,
         2 => Axis::Descendant,
-        _ => return None,
+        _ => return Err(1),
     };
-    let main = match role {
+    let main = match record[1] {
         1 => true,
-        0 => false,
-        _ => return None,
+        // "Step 1 in a predicate is a fault of its role, whatever it hangs on."
+        0 if !earlier.is_empty() => false,
+        _ => return Err(2),
     };
-    Some(Step { axis, main, hangs_on: hangs_on.into(), name: u16::from_be_bytes([high, low]) })
+    let step = Step { axis, main, hangs_on: record[2].into(), name: u16::from_be_bytes([record[4], record[5]]) };
+    if !hangs_well(&step, earlier) {
+        return Err(3);
+    }
+    if [3, 6, 7].iter().any(|&place| record[place] != 0) {
+        return Err(4);
+    }
+    Ok(step)
 }
 
 /// The step hangs where it may, `earlier` being the steps before it.

@@ -269,7 +269,7 @@ fn room_that_is_too_small_gets_15() {
         assert_eq!((session.tree().opened(), session.finish()), (0, Err(8)));
     }
     assert_eq!(Session::begin(&long, ROOM).err(), Some(NotBegun::Query(Refused::Length)));
-    assert_eq!(Session::begin(&bad, ROOM).err(), Some(NotBegun::Query(Refused::Step(1))));
+    assert_eq!(Session::begin(&bad, ROOM).err(), Some(NotBegun::Query(Refused::Step { number: 1, reason: 1 })));
     let more =
         Lent { buffer: ENOUGH.buffer + 900, room: Room { elements: ROOM.elements + 1, nodes: ROOM.nodes + 7_232 } };
     assert_eq!(session.event(&opens, more), Answer::Taken(vec![1]));
@@ -319,7 +319,7 @@ fn the_program_judges_the_query_first_and_leftover_bytes_last() {
     let stream = bytes(&events("r(d)"));
     for form in [Form::Literal, Form::Moments] {
         assert_eq!(program(form, &[], &stream), "refused 9\n");
-        assert_eq!(program(form, &[1; 8], &[]), "refused 10 at 1\n");
+        assert_eq!(program(form, &[1; 8], &[]), "refused 10 at 1 reason 3\n");
         assert_eq!(program(form, &query, &[]), "refused 8 at 0\n");
         assert_eq!(program(form, &query, &stream), "1\nend 1\n");
         assert_eq!(program(form, &query, &[&stream[..], &[1]].concat()), "1\nrefused 2 at 5\n");
@@ -332,29 +332,29 @@ fn the_program_judges_the_query_first_and_leftover_bytes_last() {
 fn the_query_rules() {
     let good = write(&[main_step(Child, 0, "r"), predicate(Child, 1, "c"), main_step(Descendant, 1, "*")]);
     assert!(Query::read(&good).is_ok());
-    // Place, value put there, and the step that is then at fault.
+    // Place, value put there, the step that is then at fault, and the reason.
     let wrong = [
-        (0, 0, 1),
-        (0, 3, 1),
-        (1, 0, 1),
-        (1, 2, 1),
-        (2, 1, 1),
-        (3, 1, 1),
-        (6, 1, 1),
-        (7, 1, 1),
-        (8, 3, 2),
-        (9, 1, 3),
-        (10, 0, 2),
-        (10, 2, 2),
-        (18, 0, 3),
-        (18, 2, 3),
-        (18, 3, 3),
-        (23, 9, 3),
+        (0, 0, 1, 1),
+        (0, 3, 1, 1),
+        (1, 0, 1, 2),
+        (1, 2, 1, 2),
+        (2, 1, 1, 3),
+        (3, 1, 1, 4),
+        (6, 1, 1, 4),
+        (7, 1, 1, 4),
+        (8, 3, 2, 1),
+        (9, 1, 3, 3),
+        (10, 0, 2, 3),
+        (10, 2, 2, 3),
+        (18, 0, 3, 3),
+        (18, 2, 3, 3),
+        (18, 3, 3, 3),
+        (23, 9, 3, 4),
     ];
-    for (place, value, step) in wrong {
+    for (place, value, number, reason) in wrong {
         let mut bytes = good.clone();
         bytes[place] = value;
-        assert_eq!(Query::read(&bytes), Err(Refused::Step(step)), "byte {place} = {value}");
+        assert_eq!(Query::read(&bytes), Err(Refused::Step { number, reason }), "byte {place} = {value}");
     }
     let mut late = good.clone();
     late.extend(write(&[predicate(Descendant, 2, "*"), predicate(Child, 4, "a")]));

@@ -23,11 +23,11 @@ put-refused-requires-2 c κs = search needs
 enum-known-answer : tie.Need-enum-known-answer
 enum-known-answer c = search needs
 
-cast-put-refused-at : tie.Need-cast-put-refused-at
-cast-put-refused-at c = search needs
+cast-put-refused-for : tie.Need-cast-put-refused-for
+cast-put-refused-for c = search needs
 
-put-refused-at-requires : tie.Need-put-refused-at-requires
-put-refused-at-requires c κs = search needs
+put-refused-for-requires : tie.Need-put-refused-for-requires
+put-refused-for-requires c κs = search needs
 
 returns : tie.Need-returns
 returns c = query-line-is (c .enum-told .given .1) (put-none _ 0, search needs)
@@ -48,7 +48,7 @@ same-length-3 : tie.Need-same-length-3
 same-length-3 c = search needs
 
 returns-4 : tie.Need-returns-4
-returns-4 c = query-line-is (c .before .before .before .before .before .answer .given .1) (c .before .before .put-refused-at .ensures)
+returns-4 c = query-line-is (c .before .before .before .before .before .answer .given .1) (c .before .before .put-refused-for .ensures)
 
 pub query-line-spec : {M : Type 1} → statement M
 query-line-spec =
@@ -60,8 +60,8 @@ query-line-spec =
     enum-told-3
     put-refused-requires-2
     enum-known-answer
-    cast-put-refused-at
-    put-refused-at-requires
+    cast-put-refused-for
+    put-refused-for-requires
     returns
     same-length
     returns-2

@@ -1,63 +1,41 @@
--- `put_refused_at` puts four parts, each behind the one before; a number under 256 has at most 3 digits, and the event's line 21 bytes.
--- Assumes nothing.
+-- `put_refused_at` puts "refused R at E", at most 35 bytes, and a line feed behind it. Assumes nothing.
 use native.Mathlib.Omega.{arith}
 use borrow.Author.Needs.{needs}
-use Rattle.lines.specs.Text.Laws.{line-short, put-refused-at}
-use Rattle.lines.specs.Decimal.Laws.{length-short}
+use Rattle.lines.specs.Text.Laws.{refusal-short, put-refused-at}
 use Rattle.lines.specs.Put.Laws.{put-counts}
 use Rattle.lines.proofs.put_refused_at.Statement.{statement}
 use Rattle.lines.proofs.put_refused_at.Tie as tie
+
+put-refusal-requires : tie.Need-put-refusal-requires
+put-refusal-requires c κs = search needs
 
 slice-aggregate-put-word : tie.Need-slice-aggregate-put-word
 slice-aggregate-put-word c = search needs
 
 put-word-requires : tie.Need-put-word-requires
-put-word-requires c κs = search needs
-
-wide-requires : tie.Need-wide-requires
-wide-requires c κs = search needs
-
-put-number-requires : tie.Need-put-number-requires
-put-number-requires c κs = omega (arith, length-short 2 (c .before .wide .result) (omega arith))
-
-slice-aggregate-put-word-2 : tie.Need-slice-aggregate-put-word-2
-slice-aggregate-put-word-2 c = search needs
-
-put-word-requires-2 : tie.Need-put-word-requires-2
-put-word-requires-2 c κs = omega (arith, length-short 2 (c .before .before .before .before .before .before .wide .result) (omega arith))
-
-put-line-requires : tie.Need-put-line-requires
-put-line-requires c κs =
-    let at-word = c .before .before .before in
-    let number = at-word .before .before .before .before .before .before .before in
-    let start = number .before .before .before .before .before .before .before in
-    omega (arith, length-short 2 (number .wide .result) (omega arith), line-short 19 (start .args .e) (omega arith))
+put-word-requires c κs =
+    let refusal = c .before .before .before .before in
+    let start = refusal .before .before .before in
+    omega (arith, refusal .put-refusal .ensures .end, refusal-short (start .args .r) (start .args .e) (omega arith) (omega arith))
 
 same-length : tie.Need-same-length
 same-length c = search needs
 
 returns : tie.Need-returns
 returns c =
-    let at-word = c .before .before .before .before .before .before in
-    let digits = at-word .before .before .before .before .before in
-    let number = digits .before .before in
-    let word = number .before .before .before in
-    let start = word .before .before .before .before in
+    let word = c .before .before in
+    let refusal = word .before .before .before .before .before in
+    let start = refusal .before .before .before in
     put-counts
-    (put-refused-at (number .wide .result) (start .args .r) (start .args .e) (number .wide .ensures .0)
-    (word .put-word .ensures) (digits .put-number .ensures) (at-word .put-word2 .ensures) (c .before .before .put-line .ensures))
-    (omega (arith, length-short 2 (number .wide .result) (omega arith), line-short 19 (start .args .e) (omega arith)))
+    (put-refused-at (start .args .r) (start .args .e) (refusal .put-refusal .ensures) (word .put-word .ensures))
+    (omega (
+      arith,
+      word .put-word .ensures .end,
+      refusal .put-refusal .ensures .end,
+      refusal-short (start .args .r) (start .args .e) (omega arith) (omega arith),
+    ))
 
 pub put-refused-at-spec : {M : Type 1} → statement M
 put-refused-at-spec =
     tie.close
-    (tie.spec
-    slice-aggregate-put-word
-    put-word-requires
-    wide-requires
-    put-number-requires
-    slice-aggregate-put-word-2
-    put-word-requires-2
-    put-line-requires
-    same-length
-    returns)
+    (tie.spec put-refusal-requires slice-aggregate-put-word put-word-requires same-length returns)

@@ -5,7 +5,8 @@
 --   line-short          a line has at most 11 bytes for a number under 10 ^ 10, 21 for one under 10 ^ 20
 --   lines-short         so many lines have at most 11 bytes each
 --   put-next            one line more is put
---   put-end, put-refused, put-refused-at      a last line is put, part by part
+--   refusal-short       "refused R at E" has at most 35 bytes
+--   put-end, put-refused, put-refused-at, put-refused-for      a last line is put, part by part;  put-refusal: "refused R at E"
 --
 -- Assumes nothing.
 use Prim.Native.Nat.{ℕ, zero, suc, _+_, _*_, _^_, _≤_, _<_}
@@ -20,7 +21,8 @@ use Rattle.lines.specs.Decimal.{decimal}
 use Rattle.lines.specs.Decimal.Laws.{length-short}
 use Rattle.lines.specs.Put.{Put}
 use Rattle.lines.specs.Put.Laws.{put-then}
-use Rattle.lines.specs.Text.{line, linesOf, endWord, refusedWord, atWord, endLine, refusedLine, refusedAtLine}
+use Rattle.lines.specs.Text.{line, linesOf, endWord, refusedWord, atWord, reasonWord, endLine, refusedLine}
+use Rattle.lines.specs.Text.{refusedAt, refusedAtLine, refusedForLine}
 
 pub linesOf-append : (ns ms : List ℕ) → linesOf (ns ++ ms) ≡ linesOf ns ++ linesOf ms
 unfolding linesOf
@@ -36,6 +38,18 @@ length-line n = length-append (decimal n) (10 ∷ [])
 
 pub line-short : (k n : ℕ) → n < 10 ^ suc k → length (line n) ≤ k + 2
 line-short k n h = omega (arith, length-line n, length-short k n h)
+
+pub refusal-short : (r e : ℕ) → r < 256 → e < 10 ^ 20 → length (refusedAt r e) ≤ 35
+unfolding refusedAt
+refusal-short r e h k =
+    omega (
+      arith,
+      length-short 2 r (omega arith),
+      length-short 19 e k,
+      length-append refusedWord (decimal r ++ (atWord ++ decimal e)),
+      length-append (decimal r) (atWord ++ decimal e),
+      length-append atWord (decimal e),
+    )
 
 nodeAt-bound : (bs : List ℕ) (i : ℕ) → Bytes bs → nodeAt bs i < 4294967296
 nodeAt-bound bs i h = omega (arith, h (4 * i), h (4 * i + 1), h (4 * i + 2), h (4 * i + 3))
@@ -62,8 +76,19 @@ module _ {l l′ l″ : List ℕ} {at e r : ℕ} where
   unfolding refusedLine
   put-refused n k is p q = rw (← is) (put-then p q)
 
-  pub put-refused-at :
+  pub put-refusal :
       {m m′ : List ℕ} {i j : ℕ} (n k x : ℕ) → n ≡ k →
-      Put l at refusedWord m i → Put m i (decimal n) m′ j → Put m′ j atWord l′ e → Put l′ e (line x) l″ r → Put l at (refusedAtLine k x) l″ r
+      Put l at refusedWord m i → Put m i (decimal n) m′ j → Put m′ j atWord l′ e → Put l′ e (decimal x) l″ r → Put l at (refusedAt k x) l″ r
+  unfolding refusedAt
+  put-refusal n k x is p q s t = rw (← is) (put-then p (put-then q (put-then s t)))
+
+  pub put-refused-at : (k x : ℕ) → Put l at (refusedAt k x) l′ e → Put l′ e (10 ∷ []) l″ r → Put l at (refusedAtLine k x) l″ r
   unfolding refusedAtLine
-  put-refused-at n k x is p q s t = rw (← is) (put-then p (put-then q (put-then s t)))
+  put-refused-at k x p q = put-then p q
+
+  -- n is the reason as the code has it
+  pub put-refused-for :
+      {m : List ℕ} {i : ℕ} (k x n y : ℕ) → n ≡ y → Put l at (refusedAt k x) m i → Put m i reasonWord l′ e → Put l′ e (line n) l″ r →
+      Put l at (refusedForLine k x y) l″ r
+  unfolding refusedForLine
+  put-refused-for k x n y is p q s = rw (← is) (put-then p (put-then q s))

@@ -11,7 +11,7 @@ use Prim.Native.Nat.{ℕ, zero, suc, _+_, _%_, _≤_, _<_}
 use native.Mathlib.Omega.{arith}
 use mathlib.Core.Logic.{_⊎_, inl, inr}
 use mathlib.Core.Path.{_≡_, refl, sym, ap, ap₂, _∙_, subst}
-use mathlib.Core.Bool.{Bool, true, false, not, _||_, cond}
+use mathlib.Core.Bool.{Bool, true, false, not, _||_, cond, or-true}
 use mathlib.Core.List.{List, [], _++_}
 use mathlib.Core.Option.{Option}
 use lib.Dec.{eqb, ltb}
@@ -39,7 +39,7 @@ use Rattle.session.specs.Run.{Housed}
 use Rattle.promise.specs.Promise.{Of, begin-answer, ended-is, handed-is}
 use Rattle.lines.specs.Put.{Put}
 use Rattle.lines.specs.Put.Laws.{put-taken}
-use Rattle.lines.specs.Text.{linesOf, endLine, refusedAtLine, refusedLine}
+use Rattle.lines.specs.Text.{linesOf, endLine, refusedAt, refusedAtLine, refusedForLine, refusedLine}
 use Rattle.system.specs.declared.File.{File}
 use Rattle.system.specs.Marks.{FileOpened, FileClosed, ReadOver, WriteTold, ReadFull, received, nothing-yet, Delivered, delivered, none-yet}
 use Rattle.closing.specs.Line.{queryLine, finishLine, lastLine}
@@ -101,28 +101,28 @@ unfolding owedOutputBy said
 query-owed started.Begun qs es h = absurd (omega arith)
 query-owed started.ShortRoom qs es h = refl
 query-owed started.BadLength qs es h = refl
-query-owed (started.BadStep k) qs es h = refl
+query-owed (started.BadStep k r) qs es h = refl
 
 refused-long : (n : ℕ) → 0 < length (refusedLine n)
 unfolding refusedLine
 refused-long n = omega arith
 
-refused-at-long : (n k : ℕ) → 0 < length (refusedAtLine n k)
-unfolding refusedAtLine
-refused-at-long n k = omega arith
+refused-for-long : (n k r : ℕ) → 0 < length (refusedForLine n k r)
+unfolding refusedForLine refusedAt
+refused-for-long n k r = omega arith
 
 query-silent : (a : Start) → length (queryLine a) ≡ 0 → a ≡ started.Begun
 query-silent started.Begun h = refl
 query-silent started.ShortRoom h = absurd (omega (arith, refused-long shortRoom))
 query-silent started.BadLength h = absurd (omega (arith, refused-long badLength))
-query-silent (started.BadStep k) h = absurd (omega (arith, refused-at-long badStep k))
+query-silent (started.BadStep k r) h = absurd (omega (arith, refused-for-long badStep k r))
 
 not-admitted : (a : Start) → 0 < length (queryLine a) → said a ≡ admitted → ⊥
 unfolding said
 not-admitted started.Begun h e = omega arith
 not-admitted started.ShortRoom h e = let z : _≡_ {A = ℕ} 0 1 = cc in omega arith
 not-admitted started.BadLength h e = let z : _≡_ {A = ℕ} 0 1 = cc in omega arith
-not-admitted (started.BadStep k) h e = let z : _≡_ {A = ℕ} 0 1 = cc in omega arith
+not-admitted (started.BadStep k r) h e = let z : _≡_ {A = ℕ} 0 1 = cc in omega arith
 
 -- with enough room begin answers the query
 pub begin-checked :
@@ -167,10 +167,6 @@ answered-by f (inl x) = inl (f x)
 answered-by f (inr y) = inr y
 
 -- a query that fills the room for one is too long, whatever follows
-
-or-true : (a : Bool) → (a || true) ≡ true
-or-true true = refl
-or-true false = refl
 
 long-refused : (qs : List ℕ) → 256 < length qs → answerTo qs ≡ refused badLength
 unfolding answerTo ifWrong

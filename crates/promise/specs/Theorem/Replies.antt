@@ -280,7 +280,7 @@ unfolding said sessionFor
 refused-session started.Begun b f = absurd (f refl)
 refused-session started.ShortRoom b f = refl
 refused-session started.BadLength b f = refl
-refused-session (started.BadStep k) b f = refl
+refused-session (started.BadStep k r) b f = refl
 
 blank-session :
     (b E N : List ℕ) (r : given.Begun) → BeginGives b E N r → (r .answer ≡ started.Begun → ⊥) → r .session ≡ fresh (planOf [])
@@ -306,7 +306,7 @@ owed-said : (b : List ℕ) (a : checked.Answer) → Owed b a → (x : start.Star
 unfolding said
 owed-said b checked.admitted o = (started.Begun, refl)
 owed-said b (checked.refused n) o = (started.BadLength, ap checked.refused (sym (o .0)))
-owed-said b (checked.refusedAt n k) o = (started.BadStep k, ap (λ (m : ℕ). checked.refusedAt m k) (sym (o .0)))
+owed-said b (checked.refusedAt n k r) o = (started.BadStep k r, ap (λ (m : ℕ). checked.refusedAt m k r) (sym (o .0)))
 
 answer-said : (b E N : List ℕ) → (x : start.Start) × (said x ≡ startAnswer b E N)
 unfolding startAnswer

@@ -4,7 +4,6 @@ use Prim.Native.Nat.{_-_, _*_, _≤_}
 use mathlib.Core.Path.{_≡_, refl}
 use native.Mathlib.Omega.{arith}
 use borrow.Author.Needs.{needs}
-use borrow.Author.Tests.{not-true, not-false}
 use lib.ListN.{length}
 use Rattle.query.specs.Rules.{stepBytes, steps, nearest}
 use Rattle.query.specs.Answer.{said, judgedFrom, judged}
@@ -41,14 +40,14 @@ part-step-start c = search needs
 part-step-end : tie.Need-part-step-end Inv-loop μ-loop
 part-step-end c = search needs
 
-keeps-rules-requires : tie.Need-keeps-rules-requires Inv-loop μ-loop
-keeps-rules-requires c κs = part-long _ (c .before .before .loop .at) (omega arith)
+reason-at-requires : tie.Need-reason-at-requires Inv-loop μ-loop
+reason-at-requires c κs = part-long _ (c .before .before .loop .at) (omega arith)
 
 returns : tie.Need-returns Inv-loop μ-loop
 unfolding said
 returns c =
     let here = c .before .before .before .before .loop in
-    turn-stops _ _ _ _ _ (here .inv .0) (here .inv .2) (c .before .keeps-rules .ensures) (here .inv .3) (omega arith) (not-true _ (c .if1 .taken))
+    turn-stops _ _ _ _ _ (here .inv .0) (here .inv .2) (c .before .reason-at .ensures) (here .inv .3) (omega arith) (omega arith)
 
 shared-slice-read-nearer-main : tie.Need-shared-slice-read-nearer-main Inv-loop μ-loop
 shared-slice-read-nearer-main c = search needs
@@ -62,11 +61,11 @@ loop-less c = search needs
 loop-again : tie.Need-loop-again Inv-loop μ-loop
 loop-again c =
     let here = c .before .before .before .before .before .before .loop in
-    let kept = not-false _ (c .before .before .if1 .left) in (
+    let kept = c .before .before .if1 .left in (
       omega arith,
       omega arith,
       next-near _ _ _ _ _ (here .inv .0) (here .inv .2) (c .nearer-main .ensures),
-      turn-goes-on _ _ _ _ _ (here .inv .0) (here .inv .2) (c .before .before .before .keeps-rules .ensures) (here .inv .3) (omega arith) kept,
+      turn-goes-on _ _ _ _ _ (here .inv .0) (here .inv .2) (c .before .before .before .reason-at .ensures) (here .inv .3) (omega arith) kept,
     )
 
 returns-2 : tie.Need-returns-2 Inv-loop μ-loop
@@ -85,7 +84,7 @@ judge-spec =
     sub-step
     part-step-start
     part-step-end
-    keeps-rules-requires
+    reason-at-requires
     returns
     shared-slice-read-nearer-main
     nearer-main-requires

@@ -33,6 +33,15 @@ mul-result c = search needs
 add-result : tie.Need-add-result
 add-result c = search needs
 
+cast-result-4 : tie.Need-cast-result-4
+cast-result-4 c = search needs
+
+mul-result-2 : tie.Need-mul-result-2
+mul-result-2 c = search needs
+
+add-result-2 : tie.Need-add-result-2
+add-result-2 c = search needs
+
 returns : tie.Need-returns
 unfolding packed said
 returns c = ap packed (ap said (sym (c .enum-told .given .1)) ∙ c .before .before .check .ensures)
@@ -58,6 +67,9 @@ compassflare-check-spec =
     cast-result-3
     mul-result
     add-result
+    cast-result-4
+    mul-result-2
+    add-result-2
     returns
     returns-2
     returns-3)

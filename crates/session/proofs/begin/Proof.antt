@@ -55,7 +55,7 @@ returns-3 c = let at-check = c .before .before in
 returns-4 : tie.Need-returns-4
 returns-4 c = let at-check = c .before .before .before in
     let enough = room-fits _ _ (at-check .before .before .refuse-room .ensures .1 (at-check .before .if1 .left)) in
-    begin-broken _ _ _ _ _ enough _ (at-check .before .before .before .fresh .ensures) _ (at-check .check .ensures) _ (c .before .answer .given .1) refl
+    begin-broken _ _ _ _ _ enough _ (at-check .before .before .before .fresh .ensures) _ (at-check .check .ensures) _ _ (c .before .answer .given .1) refl
     (at-check .before .before .before .before .plan-of .ensures)
 
 pub begin-spec : {M : Type 1} → statement M

@@ -53,9 +53,10 @@ module _ (q E N : List ℕ) (a : start.Start) (s : Session) where
     begin-long ec ea ep =
         beside (ap said ea ∙ ap query.said (sym ec) ∙ asked) (es ∙ ap fresh ep ∙ ap (λ x. sessionFor (said x) q) (sym ea))
 
-    pub begin-broken : (k : ℕ) → c ≡ BadStep k → a ≡ started.BadStep k → plan ≡ planOf [] → BeginGives q E N (record { answer = a; session = s })
+    pub begin-broken :
+        (k r : ℕ) → c ≡ BadStep k r → a ≡ started.BadStep k r → plan ≡ planOf [] → BeginGives q E N (record { answer = a; session = s })
     unfolding said query.said sessionFor
-    begin-broken k ec ea ep =
+    begin-broken k r ec ea ep =
         beside (ap said ea ∙ ap query.said (sym ec) ∙ asked) (es ∙ ap fresh ep ∙ ap (λ x. sessionFor (said x) q) (sym ea))
 
 said-one : (x y : start.Start) → said x ≡ said y → x ≡ y
@@ -63,19 +64,19 @@ unfolding said
 said-one started.Begun started.Begun e = refl
 said-one started.Begun started.ShortRoom e = let z : _≡_ {A = ℕ} 0 1 = cc in absurd (omega arith)
 said-one started.Begun started.BadLength e = let z : _≡_ {A = ℕ} 0 1 = cc in absurd (omega arith)
-said-one started.Begun (started.BadStep k) e = let z : _≡_ {A = ℕ} 0 1 = cc in absurd (omega arith)
+said-one started.Begun (started.BadStep k r) e = let z : _≡_ {A = ℕ} 0 1 = cc in absurd (omega arith)
 said-one started.ShortRoom started.Begun e = let z : _≡_ {A = ℕ} 0 1 = cc in absurd (omega arith)
 said-one started.ShortRoom started.ShortRoom e = refl
 said-one started.ShortRoom started.BadLength e = let z : _≡_ {A = ℕ} 15 9 = cc in absurd (omega arith)
-said-one started.ShortRoom (started.BadStep k) e = let z : _≡_ {A = ℕ} 0 1 = cc in absurd (omega arith)
+said-one started.ShortRoom (started.BadStep k r) e = let z : _≡_ {A = ℕ} 0 1 = cc in absurd (omega arith)
 said-one started.BadLength started.Begun e = let z : _≡_ {A = ℕ} 0 1 = cc in absurd (omega arith)
 said-one started.BadLength started.ShortRoom e = let z : _≡_ {A = ℕ} 9 15 = cc in absurd (omega arith)
 said-one started.BadLength started.BadLength e = refl
-said-one started.BadLength (started.BadStep k) e = let z : _≡_ {A = ℕ} 0 1 = cc in absurd (omega arith)
-said-one (started.BadStep k) started.Begun e = let z : _≡_ {A = ℕ} 0 1 = cc in absurd (omega arith)
-said-one (started.BadStep k) started.ShortRoom e = let z : _≡_ {A = ℕ} 0 1 = cc in absurd (omega arith)
-said-one (started.BadStep k) started.BadLength e = let z : _≡_ {A = ℕ} 0 1 = cc in absurd (omega arith)
-said-one (started.BadStep k) (started.BadStep l) e = ap started.BadStep (cc)
+said-one started.BadLength (started.BadStep k r) e = let z : _≡_ {A = ℕ} 0 1 = cc in absurd (omega arith)
+said-one (started.BadStep k r) started.Begun e = let z : _≡_ {A = ℕ} 0 1 = cc in absurd (omega arith)
+said-one (started.BadStep k r) started.ShortRoom e = let z : _≡_ {A = ℕ} 0 1 = cc in absurd (omega arith)
+said-one (started.BadStep k r) started.BadLength e = let z : _≡_ {A = ℕ} 0 1 = cc in absurd (omega arith)
+said-one (started.BadStep k r) (started.BadStep l t) e = ap₂ started.BadStep (cc) (cc)
 
 pub begin-one : (q E N : List ℕ) (x y : given.Begun) → BeginGives q E N x → BeginGives q E N y → x ≡ y
 begin-one q E N x y gx gy =

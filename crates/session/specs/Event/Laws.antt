@@ -14,7 +14,7 @@
 use Prim.Native.Nat.{ℕ, zero, suc, _≤_}
 use native.Mathlib.Omega.{arith}
 use mathlib.Core.Path.{_≡_, refl, sym, ap, ap₂, _∙_}
-use mathlib.Core.Bool.{Bool, true, false, not, _||_, or-false}
+use mathlib.Core.Bool.{Bool, true, false, not, _||_, or-true, or-false}
 use mathlib.Core.List.{List}
 use mir.Val.{boolByte}
 use lib.Dec.{eqb, ltb}
@@ -69,13 +69,9 @@ again s = ap₂ (saying s) (boolByte-read (s .ended)) (boolByte-read (s .stopped
 
 -- after a refusal
 
-or-true : (b : Bool) → true ≡ (b || true)
-or-true true = refl
-or-true false = refl
-
 stopped-by : (c : Bool) (s : Session) → withNumbers s (when c (withStop 1 (sessionNumbers s)) (sessionNumbers s)) ≡ saying s (s .ended) (s .stopped || c)
 unfolding when
-stopped-by true s = ap₂ (saying s) (boolByte-read (s .ended)) (or-true (s .stopped))
+stopped-by true s = ap₂ (saying s) (boolByte-read (s .ended)) (sym (or-true (s .stopped)))
 stopped-by false s = ap₂ (saying s) (boolByte-read (s .ended)) (boolByte-read (s .stopped) ∙ sym (or-false (s .stopped)))
 
 pub stopped-numbers : (r : ℕ) (s : Session) → withNumbers s (markedBy r (sessionNumbers s)) ≡ stoppedBy r s

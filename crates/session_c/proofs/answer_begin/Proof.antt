@@ -41,6 +41,15 @@ mul-result c = search needs
 add-result : tie.Need-add-result
 add-result c = search needs
 
+cast-result-5 : tie.Need-cast-result-5
+cast-result-5 c = search needs
+
+mul-result-2 : tie.Need-mul-result-2
+mul-result-2 c = search needs
+
+add-result-2 : tie.Need-add-result-2
+add-result-2 c = search needs
+
 same-length : tie.Need-same-length
 same-length c = search needs
 
@@ -87,6 +96,9 @@ answer-begin-spec =
     cast-result-4
     mul-result
     add-result
+    cast-result-5
+    mul-result-2
+    add-result-2
     same-length
     returns
     returns-2

@@ -9,7 +9,7 @@
 use Prim.Native.Nat.{ℕ, zero, suc, _+_, _*_, _/_, _<_}
 use native.Mathlib.Omega.{arith}
 use mathlib.Core.Path.{_≡_, refl, sym, ap, ap₂, _∙_}
-use mathlib.Core.Bool.{Bool, true, false, _||_, or-false}
+use mathlib.Core.Bool.{Bool, true, false, _||_, or-true, or-false}
 use mathlib.Core.List.{List, [], _∷_, _++_}
 use mir.Val.{boolByte}
 use lib.Dec.{eqb, ltb}
@@ -47,10 +47,6 @@ stopping s b =
       ended = s .ended;
       stopped = b;
     }
-
-or-true : (b : Bool) → true ≡ (b || true)
-or-true true = refl
-or-true false = refl
 
 module _ (S : List ℕ) (long : length S ≡ sessionRoom) (bytes-S : Bytes S) where
   abbrev rest : List ℕ
@@ -91,7 +87,7 @@ module _ (S : List ℕ) (long : length S ≡ sessionRoom) (bytes-S : Bytes S) wh
       ap sessionIn (sym (marked-is S long bytes-S))
       ∙ ap₂ (λ (x y : List ℕ). sessionOf x (numbersIn y)) (take-at (take planRoom S) X planRoom kept-long) (drop-at (take planRoom S) X planRoom kept-long)
       ∙ ap (sessionOf (take planRoom S)) numbers-back
-      ∙ ap (stopping (sessionIn S)) (or-true (sessionIn S .stopped))
+      ∙ ap (stopping (sessionIn S)) (sym (or-true (sessionIn S .stopped)))
   read-by false = ap (stopping (sessionIn S)) (sym (or-false (sessionIn S .stopped)))
 
   pub marked-read : (r : ℕ) → sessionIn (markedBytes r S) ≡ stoppedBy r (sessionIn S)

@@ -144,12 +144,13 @@ fn keep(case: &Case, must: &str, came: Option<Vec<u8>>, folder: &Path) -> std::i
     Ok(())
 }
 
-/// The last line without its counts and its place.
+/// The last line without its counts and its place, but with a step's reason.
 fn ending(must: &str) -> String {
     let words: Vec<&str> = must.lines().last().unwrap_or("").split(' ').collect();
     match words[..] {
         ["end", ..] => "end".into(),
         ["finish", "opened", ..] => "finish opened".into(),
+        ["refused", number, "at", _, "reason", reason] => format!("refused {number} reason {reason}"),
         ["refused", number, ..] => format!("refused {number}"),
         _ => words.join(" "),
     }
