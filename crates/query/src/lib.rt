@@ -3,7 +3,7 @@ ghost use mathlib.Core.Path.{_≡_};
 ghost use lib.ListN.{length};
 ghost use Rattle.meaning.specs.Query.{hangsRight, nearer};
 ghost use Rattle.query.specs.Rules.{stepBytes, wrongLength, Right, axisNamed, axisRule, roleRule, zeroRule};
-ghost use Rattle.query.specs.Reasons.{reasonsBy, reasonsWith, lowest};
+ghost use Rattle.query.specs.Reasons.{reasonsWith, lowest};
 ghost use Rattle.query.specs.Answer.{CheckGives, judged, said};
 
 // What the check answers. `said` of specs/Answer.antt gives each case its number.
@@ -83,32 +83,22 @@ fn nearer_main(main: bool, k: u8, near: u8) -> u8
     if main { k } else { near }
 }
 
-// Why step k is at fault, 0 where it keeps every rule; `near` is the nearest main-path step before it, 0 where there is none.
+// Why step k is at fault: the lowest reason that applies, 0 where none does; `near` is the nearest main-path step before it, 0 where there is none. No name and
+// no value is forbidden yet, so nothing gives 5.
 fn reason_at(step: &[u8], k: u8, near: u8) -> u8
     requires { ⌜ length (now step) ≡ stepBytes ⌝ }
     ensures { λ r. ⌜ r ≡ lowest (reasonsWith (now (step .entry)) k near) ⌝ }
 {
-    let axis = keeps_axis_rule(step[0]);
-    let role = keeps_role_rule(step[1], k);
-    let hang = keeps_hang_rule(step[1] == 1, step[2], k, near);
-    let zero = keeps_zero_rule(step);
-    lowest_reason(axis, role, hang, zero)
-}
-
-// The lowest reason that applies, by which rules are kept; 0 where all are. No name and no value is forbidden yet: nothing gives 5.
-fn lowest_reason(axis: bool, role: bool, hang: bool, zero: bool) -> u8
-    ensures { λ r. ⌜ r ≡ lowest (reasonsBy axis role hang zero) ⌝ }
-{
-    if !axis {
+    if !keeps_axis_rule(step[0]) {
         return limits::BAD_AXIS;
     }
-    if !role {
+    if !keeps_role_rule(step[1], k) {
         return limits::BAD_ROLE;
     }
-    if !hang {
+    if !keeps_hang_rule(step[1] == 1, step[2], k, near) {
         return limits::BAD_HANG;
     }
-    if !zero {
+    if !keeps_zero_rule(step) {
         return limits::BAD_ZERO;
     }
     0
