@@ -119,7 +119,7 @@ class Query:
 
 
 def step_fault(number, record, last_main):
-    """The lowest reason that applies to a step, and why; last_main is the nearest main-path step before it."""
+    """The lowest reason that applies to a step, and why, or nothing; last_main is the nearest main-path step before it."""
     axis, role, hangs_on, zero3, _, _, zero6, zero7 = record
     faults = [
         (1, axis not in AXES, f"axis {axis} is neither 1 (child) nor 2 (descendant)"),

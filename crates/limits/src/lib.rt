@@ -47,6 +47,12 @@ pub const BAD_LENGTH: u8 = 9;
 // "a step breaks a rule; comes with the first such step's number, and a reason"
 pub const BAD_STEP: u8 = 10;
 
+// "the session is stopped"
+pub const ALREADY_STOPPED: u8 = 11;
+
+// "lent room under 16,384 bytes for the open elements or under 32,768 bytes for the waiting nodes"
+pub const SHORT_ROOM: u8 = 15;
+
 // The reasons: "axis"
 pub const BAD_AXIS: u8 = 1;
 
@@ -58,9 +64,3 @@ pub const BAD_HANG: u8 = 3;
 
 // "a byte that must be 0"
 pub const BAD_ZERO: u8 = 4;
-
-// "the session is stopped"
-pub const ALREADY_STOPPED: u8 = 11;
-
-// "lent room under 16,384 bytes for the open elements or under 32,768 bytes for the waiting nodes"
-pub const SHORT_ROOM: u8 = 15;

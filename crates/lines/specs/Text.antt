@@ -4,9 +4,9 @@
 --   linesOf ns          such a line for each of ns
 --   endWord, refusedWord, atWord, reasonWord      the texts "end ", "refused ", " at ", " reason "
 --   endLine n           the line "end N"
---   refusedAt r e       the text "refused R at E"
+--   refusalText r e     the text "refused R at E"
 --   refusedAtLine r e   the line "refused R at E"
---   refusedForLine r e n      the line "refused R at E", with " reason N" before its end
+--   refusedForLine r e n      the line `refused R at E reason N`
 --   refusedLine r       the line "refused R"
 --
 -- Assumes nothing. NOT here: which lines the program writes when (crate pick), the nodes in list records (crate records, Write), passed on.
@@ -41,16 +41,16 @@ reasonWord = 32 ∷ 114 ∷ 101 ∷ 97 ∷ 115 ∷ 111 ∷ 110 ∷ 32 ∷ []
 unfoldable pub endLine : ℕ → List ℕ
 endLine n = endWord ++ line n
 
-unfoldable pub refusedAt : ℕ → ℕ → List ℕ
-refusedAt r e = refusedWord ++ (decimal r ++ (atWord ++ decimal e))
+unfoldable pub refusalText : ℕ → ℕ → List ℕ
+refusalText r e = refusedWord ++ (decimal r ++ (atWord ++ decimal e))
 
 -- "or `refused R at E`"
 unfoldable pub refusedAtLine : ℕ → ℕ → List ℕ
-refusedAtLine r e = refusedAt r e ++ (10 ∷ [])
+refusedAtLine r e = refusalText r e ++ (10 ∷ [])
 
 -- "and refusal 10 `refused 10 at K reason N`"
 unfoldable pub refusedForLine : ℕ → ℕ → ℕ → List ℕ
-refusedForLine r e n = refusedAt r e ++ (reasonWord ++ line n)
+refusedForLine r e n = refusalText r e ++ (reasonWord ++ line n)
 
 -- "Refusal 9 is written `refused 9`."
 unfoldable pub refusedLine : ℕ → List ℕ

@@ -5,7 +5,7 @@ ghost use lib.ListN.{length};
 ghost use Rattle.io.specs.Counts.{Counts};
 ghost use Rattle.lines.specs.Decimal.{decimal};
 ghost use Rattle.lines.specs.Put.{Put};
-ghost use Rattle.lines.specs.Text.{line, linesOf, nodeAt, nodesIn, endLine, refusedAt, refusedAtLine, refusedForLine, refusedLine};
+ghost use Rattle.lines.specs.Text.{line, linesOf, nodeAt, nodesIn, endLine, refusalText, refusedAtLine, refusedForLine, refusedLine};
 
 // How many digits the number has.
 fn width(n: u64) -> usize
@@ -108,7 +108,7 @@ pub fn put_end(n: u64, text: &mut [u8]) -> usize
 // `refused R at E`, with nothing behind it.
 fn put_refusal(r: u8, e: u64, text: &mut [u8]) -> usize
     requires { ⌜ 64 ≤ length (now text) ⌝ }
-    ensures { λ k. ⌜ Put (now (text .entry)) 0 (refusedAt r e) (now (text .exit)) k ⌝ }
+    ensures { λ k. ⌜ Put (now (text .entry)) 0 (refusalText r e) (now (text .exit)) k ⌝ }
 {
     let number = put_word(b"refused ", 0, text);
     let word = put_number(wide(r), number, text);

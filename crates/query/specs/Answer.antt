@@ -21,7 +21,7 @@ use lib.ListN.{length}
 use Rattle.meaning.specs.Refusals.{badLength, badStep}
 use Rattle.meaning.specs.Table.{first}
 use Rattle.query.specs.Rules.{wrongLength, steps, keeps}
-use Rattle.query.specs.Reasons.{Applies, reasons}
+use Rattle.query.specs.Reasons.{Due, reasons}
 use Rattle.query.specs.declared.QueryAnswer.{QueryAnswer}
 use Rattle.query.specs.declared.QueryAnswer.the-variants.{Admitted, BadLength, BadStep}
 
@@ -41,8 +41,8 @@ pub record FirstBreaking (q : List ℕ) (k r : ℕ) : Type 0 where
   pub before : ℕ
   pub number : k ≡ suc before
   pub there : before < steps q
-  pub applies : Applies q before r
-  pub lowest : (t : ℕ) → Applies q before t → r ≤ t
+  pub due : Due q before r
+  pub least : (t : ℕ) → Due q before t → r ≤ t
   pub earlier : (s : ℕ) → s < before → keeps q s ≡ true
 
 pub record Kept (q : List ℕ) : Type 0 where

@@ -1,4 +1,4 @@
-// The query check: which bytes are a query, and with which number the others are refused.
+// The query check: which bytes are a query, and with which number, step and reason the others are refused.
 ghost use mathlib.Core.Path.{_≡_};
 ghost use lib.ListN.{length};
 ghost use Rattle.meaning.specs.Query.{hangsRight, nearer};
@@ -12,7 +12,7 @@ pub enum QueryAnswer {
     Admitted,
     // 9: "query of 0 bytes, of a length not a multiple of 8, or over 256 bytes"
     BadLength,
-    // 10: "a step breaks a rule; comes with the first such step's number, and a reason"
+    // 10: "a step breaks a rule; comes with the first such step's number, and a reason": that number, and the reason
     BadStep(u8, u8),
 }
 

@@ -1,4 +1,4 @@
-// The query check for callers in C and Rust: the answer as one number.
+// The query check for callers in C and Rust: the answer as one number, with a byte each for the refusal, the step at fault and the reason.
 use query::QueryAnswer;
 ghost use Rattle.query_c.specs.Packed.{ExportGives};
 

@@ -49,6 +49,7 @@ pub enum Start {
     Begun,
     ShortRoom,
     BadLength,
+    // The number of the first step at fault, and the reason.
     BadStep(u8, u8),
 }
 

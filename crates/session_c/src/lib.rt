@@ -1,5 +1,6 @@
 // The session's calls for callers in C and Rust. The session stands in 312 bytes that the caller lends with each call: 288 that are kept of the query
-// (crate plan_bytes) and 24 of numbers (crate numbers). Answers are numbers: 0, or the refusal's, and 256 times what comes with it.
+// (crate plan_bytes) and 24 of numbers (crate numbers). Answers are numbers: 0, or the refusal's, and 256 times what comes with it; begin's has 65,536
+// times the reason as well.
 ghost use mathlib.Core.Path.{_≡_};
 ghost use mathlib.Core.List.{[], _∷_};
 ghost use lib.ListN.{length};
@@ -103,8 +104,8 @@ fn answer_begin(answer: Start, first: Session, room: &mut [u8]) -> u64
     }
 }
 
-// A session for a query, in the 312 bytes of `session`, whatever they held: 0, or the refusal's number, and with 10 256 times the number of the first step at
-// fault and 65,536 times the reason, as `compassflare_check` answers (crate query_c).
+// A session for a query, in the 312 bytes of `session`, whatever they held: 0, or the refusal's number. With refusal 10 come 256 times the number of the
+// first step at fault and 65,536 times the reason, as `compassflare_check` answers (crate query_c).
 #[no_mangle]
 pub extern "C" fn compassflare_begin(
     query: &[u8],

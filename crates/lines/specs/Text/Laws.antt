@@ -22,7 +22,7 @@ use Rattle.lines.specs.Decimal.Laws.{length-short}
 use Rattle.lines.specs.Put.{Put}
 use Rattle.lines.specs.Put.Laws.{put-then}
 use Rattle.lines.specs.Text.{line, linesOf, endWord, refusedWord, atWord, reasonWord, endLine, refusedLine}
-use Rattle.lines.specs.Text.{refusedAt, refusedAtLine, refusedForLine}
+use Rattle.lines.specs.Text.{refusalText, refusedAtLine, refusedForLine}
 
 pub linesOf-append : (ns ms : List ℕ) → linesOf (ns ++ ms) ≡ linesOf ns ++ linesOf ms
 unfolding linesOf
@@ -39,8 +39,8 @@ length-line n = length-append (decimal n) (10 ∷ [])
 pub line-short : (k n : ℕ) → n < 10 ^ suc k → length (line n) ≤ k + 2
 line-short k n h = omega (arith, length-line n, length-short k n h)
 
-pub refusal-short : (r e : ℕ) → r < 256 → e < 10 ^ 20 → length (refusedAt r e) ≤ 35
-unfolding refusedAt
+pub refusal-short : (r e : ℕ) → r < 256 → e < 10 ^ 20 → length (refusalText r e) ≤ 35
+unfolding refusalText
 refusal-short r e h k =
     omega (
       arith,
@@ -78,17 +78,17 @@ module _ {l l′ l″ : List ℕ} {at e r : ℕ} where
 
   pub put-refusal :
       {m m′ : List ℕ} {i j : ℕ} (n k x : ℕ) → n ≡ k →
-      Put l at refusedWord m i → Put m i (decimal n) m′ j → Put m′ j atWord l′ e → Put l′ e (decimal x) l″ r → Put l at (refusedAt k x) l″ r
-  unfolding refusedAt
+      Put l at refusedWord m i → Put m i (decimal n) m′ j → Put m′ j atWord l′ e → Put l′ e (decimal x) l″ r → Put l at (refusalText k x) l″ r
+  unfolding refusalText
   put-refusal n k x is p q s t = rw (← is) (put-then p (put-then q (put-then s t)))
 
-  pub put-refused-at : (k x : ℕ) → Put l at (refusedAt k x) l′ e → Put l′ e (10 ∷ []) l″ r → Put l at (refusedAtLine k x) l″ r
+  pub put-refused-at : (k x : ℕ) → Put l at (refusalText k x) l′ e → Put l′ e (10 ∷ []) l″ r → Put l at (refusedAtLine k x) l″ r
   unfolding refusedAtLine
   put-refused-at k x p q = put-then p q
 
   -- n is the reason as the code has it
   pub put-refused-for :
-      {m : List ℕ} {i : ℕ} (k x n y : ℕ) → n ≡ y → Put l at (refusedAt k x) m i → Put m i reasonWord l′ e → Put l′ e (line n) l″ r →
+      {m : List ℕ} {i : ℕ} (k x n y : ℕ) → n ≡ y → Put l at (refusalText k x) m i → Put m i reasonWord l′ e → Put l′ e (line n) l″ r →
       Put l at (refusedForLine k x y) l″ r
   unfolding refusedForLine
   put-refused-for k x n y is p q s = rw (← is) (put-then p (put-then q s))

@@ -39,7 +39,7 @@ use Rattle.session.specs.Run.{Housed}
 use Rattle.promise.specs.Promise.{Of, begin-answer, ended-is, handed-is}
 use Rattle.lines.specs.Put.{Put}
 use Rattle.lines.specs.Put.Laws.{put-taken}
-use Rattle.lines.specs.Text.{linesOf, endLine, refusedAt, refusedAtLine, refusedForLine, refusedLine}
+use Rattle.lines.specs.Text.{linesOf, endLine, refusalText, refusedAtLine, refusedForLine, refusedLine}
 use Rattle.system.specs.declared.File.{File}
 use Rattle.system.specs.Marks.{FileOpened, FileClosed, ReadOver, WriteTold, ReadFull, received, nothing-yet, Delivered, delivered, none-yet}
 use Rattle.closing.specs.Line.{queryLine, finishLine, lastLine}
@@ -108,7 +108,7 @@ unfolding refusedLine
 refused-long n = omega arith
 
 refused-for-long : (n k r : ℕ) → 0 < length (refusedForLine n k r)
-unfolding refusedForLine refusedAt
+unfolding refusedForLine refusalText
 refused-for-long n k r = omega arith
 
 query-silent : (a : Start) → length (queryLine a) ≡ 0 → a ≡ started.Begun

@@ -4,6 +4,7 @@
 --   owed-one           at most one answer is owed
 --   answer-exactly     an answer is given exactly if it is owed; nine-, ten-, admitted-exactly: the same of each case
 --   five-never         the reasons given are 1 to 4: 5 is not given yet
+--   step-within        the step with it is one from 1 to 32
 --   said-one           two cases of the code's enum that stand for one answer are equal
 --   check-one          two results that the check's promise allows are equal
 --
@@ -20,8 +21,9 @@ use borrow.Author.Count.{below-more}
 use lib.ListN.{length}
 use Rattle.meaning.specs.Refusals.{badLength, badStep}
 use Rattle.meaning.specs.Table.Laws.{Outcome, first-is, none-is}
-use Rattle.query.specs.Rules.{wrongLength, steps, keeps}
-use Rattle.query.specs.Reasons.{Applies, reasons}
+use Rattle.query.specs.Rules.{mostSteps, wrongLength, steps, keeps}
+use Rattle.query.specs.Rules.Laws.{right-length}
+use Rattle.query.specs.Reasons.{Due, reasons}
 use Rattle.query.specs.Reasons.Laws.{applies-exactly, reason-given, keeps-exactly, four-at-most}
 use Rattle.query.specs.Answer.{Answer, admitted, refused, refusedAt, said, FirstBreaking}
 use Rattle.query.specs.Answer.{Kept, Owed, ifNone, judgedFrom, judged, ifWrong, answerTo, CheckGives}
@@ -50,8 +52,8 @@ module _ (q : List ℕ) (right : wrongLength (length q) ≡ false) where
       before = s;
       number = refl;
       there = there;
-      applies = applies-exactly q s r .0 m;
-      lowest = λ t a. f t (applies-exactly q s t .1 a);
+      due = applies-exactly q s r .0 m;
+      least = λ t a. f t (applies-exactly q s t .1 a);
       earlier = h;
     },
   )
@@ -78,7 +80,7 @@ clash b p n = true≢false (sym p ∙ n)
 
 -- of two steps that break a rule, the later is not the first
 not-before : (q : List ℕ) {k l r t : ℕ} (f : FirstBreaking q k r) (g : FirstBreaking q l t) → f .before < g .before → ⊥
-not-before q {r = r} f g lt = keeps-exactly q (f .before) .0 (g .earlier (f .before) lt) r (f .applies)
+not-before q {r = r} f g lt = keeps-exactly q (f .before) .0 (g .earlier (f .before) lt) r (f .due)
 
 same-step : (q : List ℕ) {k l r t : ℕ} (f : FirstBreaking q k r) (g : FirstBreaking q l t) → f .before ≡ g .before
 same-step q f g = omega (arith, not-before q f g, not-before q g f)
@@ -92,12 +94,12 @@ reason-one q {r = r} {t} f g =
     let here = same-step q f g in
     omega (
       arith,
-      f .lowest t (subst (λ s. Applies q s t) (sym here) (g .applies)),
-      g .lowest r (subst (λ s. Applies q s r) here (f .applies)),
+      f .least t (subst (λ s. Due q s t) (sym here) (g .due)),
+      g .least r (subst (λ s. Due q s r) here (f .due)),
     )
 
 kept-or-first : (q : List ℕ) {k r : ℕ} → Kept q → FirstBreaking q k r → ⊥
-kept-or-first q {r = r} all f = keeps-exactly q (f .before) .0 (all .each (f .before) (f .there)) r (f .applies)
+kept-or-first q {r = r} all f = keeps-exactly q (f .before) .0 (all .each (f .before) (f .there)) r (f .due)
 
 pub owed-one : (q : List ℕ) (a b : Answer) → Owed q a → Owed q b → a ≡ b
 owed-one q admitted admitted o p = refl
@@ -124,7 +126,13 @@ ten-exactly q k r = (
 )
 
 pub five-never : (q : List ℕ) (k r : ℕ) → answerTo q ≡ refusedAt badStep k r → (1 ≤ r) × (r ≤ 4)
-five-never q k r given = let f = ten-exactly q k r .0 given in four-at-most q (f .before) (f .applies)
+five-never q k r given = let f = ten-exactly q k r .0 given in four-at-most q (f .before) (f .due)
+
+pub step-within : (q : List ℕ) (k r : ℕ) → answerTo q ≡ refusedAt badStep k r → (1 ≤ k) × (k ≤ mostSteps)
+step-within q k r given =
+    let f = ten-exactly q k r .0 given in
+    let right = right-length (length q) (f .right) in
+    (omega (arith, f .number), omega (arith, f .number, f .there, right .short))
 
 pub admitted-exactly : (q : List ℕ) → (answerTo q ≡ admitted) ↔ Kept q
 admitted-exactly q = answer-exactly q admitted

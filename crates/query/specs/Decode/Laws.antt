@@ -9,7 +9,7 @@
 -- Assumes nothing.
 use Prim.Native.Nat.{ℕ, zero, suc, _+_, _*_, _≤_, _<_}
 use mathlib.Core.Path.{_≡_, refl, sym, ap, subst, _∙_}
-use mathlib.Core.Bool.{true, false, _&&_}
+use mathlib.Core.Bool.{true, false, _&&_, and-eq-true-iff}
 use mathlib.Core.List.{List}
 use mathlib.Core.Logic.{_↔_, ⊎-elim}
 use native.Mathlib.Nat.{eq-or-lt-of-le, add-zero, zero-add, suc-add, add-suc}
@@ -23,7 +23,7 @@ use Rattle.meaning.specs.Name.{lastName}
 use Rattle.meaning.specs.Record.{Bytes}
 use Rattle.meaning.specs.Query.{Step, rules, isEmpty, admits}
 use Rattle.query.specs.Rules.{Right, steps, stepOf, nameNumber, nearest, hangRule, keeps}
-use Rattle.query.specs.Rules.Laws.{and-both, and-first, and-second, hangRule-is, role-hung, keeps-each, all-keeps, right-length}
+use Rattle.query.specs.Rules.Laws.{hangRule-is, keeps-plain, right-length}
 use Rattle.query.specs.Answer.{admitted, answerTo, Kept}
 use Rattle.query.specs.Answer.Laws.{admitted-exactly}
 use Rattle.query.specs.Decode.{decodeStep, decodeFrom, decode, Meant, Shaped}
@@ -70,15 +70,16 @@ module _ (q : List ℕ) (bytes : Bytes q) where
   rules-if : (n s : ℕ) → HangFrom n s → rules (decodeFrom q n s) (suc s) (nearest q s) ≡ true
   unfolding decodeFrom rules HangFrom
   rules-if zero s h = refl
-  rules-if (suc n) s h = rules-step n s ∙ and-both _ _ (h s (omega arith) (omega arith)) (rules-if n (suc s) (λ t low high. h t (omega arith) (omega arith)))
+  rules-if (suc n) s h =
+      rules-step n s ∙ and-eq-true-iff _ _ .1 (h s (omega arith) (omega arith), rules-if n (suc s) (λ t low high. h t (omega arith) (omega arith)))
 
   rules-then : (n s : ℕ) → rules (decodeFrom q n s) (suc s) (nearest q s) ≡ true → HangFrom n s
   unfolding HangFrom
   rules-then zero s e t low high = absurd (omega arith)
   rules-then (suc n) s e t low high =
       let parts : (hangRule q s && rules (decodeFrom q n (suc s)) (suc (suc s)) (nearest q (suc s))) ≡ true = sym (rules-step n s) ∙ e in
-      ⊎-elim (λ same. rw (← same) (and-first _ _ parts))
-      (λ later. rules-then n (suc s) (and-second (hangRule q s) _ parts) t later (omega arith)) (eq-or-lt-of-le low)
+      ⊎-elim (λ same. rw (← same) (and-eq-true-iff (hangRule q s) _ .0 parts .0))
+      (λ later. rules-then n (suc s) (and-eq-true-iff (hangRule q s) _ .0 parts .1) t later (omega arith)) (eq-or-lt-of-le low)
 
   pub rules-exactly : (rules (decode q) 1 0 ≡ true) ↔ ((t : ℕ) → t < steps q → hangRule q t ≡ true)
   unfolding decode nearest HangFrom
@@ -102,12 +103,12 @@ admits-is q right = rw (full q (steps q) (some-step q right))
 
 shaped-keeps : (q : List ℕ) (shaped : Shaped q) (s : ℕ) → s < steps q → hangRule q s ≡ true → keeps q s ≡ true
 shaped-keeps q shaped s there hangs =
-    all-keeps q s (shaped .axis s there) (role-hung q s (shaped .role s there) hangs) hangs (shaped .zero s there)
+    keeps-plain q s .1 (shaped .axis s there, shaped .role s there, hangs, shaped .zero s there)
 
 kept-admits : (q : List ℕ) → Bytes q → Kept q → T (admits (decode q))
 kept-admits q bytes kept =
     let right : Right (length q) = right-length (length q) (kept .right) in
-    let ruled : rules (decode q) 1 0 ≡ true = rules-exactly q bytes .1 (λ t there. keeps-each q t (kept .each t there) .2) in
+    let ruled : rules (decode q) 1 0 ≡ true = rules-exactly q bytes .1 (λ t there. keeps-plain q t .0 (kept .each t there) .2) in
     subst T (sym (admits-is q right ∙ ruled)) tt
 
 pub meant : (q : List ℕ) → Bytes q → answerTo q ≡ admitted → Meant q

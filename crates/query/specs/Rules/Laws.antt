@@ -1,17 +1,16 @@
 -- Laws of the query rules.
 --
---   and-both, and-first, and-second      two tests that pass
 --   hangRule-is     what a step hangs on, in one line for every step: crate meaning's `hangsRight`
---   role-hung       where a step hangs right, its role is right if its byte is one of the two: "Step 1 is on the main path" stands in both rules
---   keeps-each, all-keeps      a step keeps every rule exactly if it keeps each
+--   keeps-each      a step keeps every rule exactly if it keeps each
+--   keeps-plain     of its role only the byte need be asked: that "Step 1 is on the main path" is said by what it hangs on as well, so it refuses nothing more
 --   right-length    a length that is not wrong is right
 --
 -- Assumes nothing. NOT here: what `nearest` finds (Rules.Nearest).
 use Prim.Native.Nat.{ℕ, zero, suc, _%_}
 use mathlib.Core.Path.{_≡_, refl, sym}
-use mathlib.Core.Bool.{Bool, true, false, not, _&&_, _||_, and-true, or-true, true≢false}
+use mathlib.Core.Bool.{Bool, true, false, not, _&&_, _||_, and-true, or-true, and-eq-true-iff}
 use mathlib.Core.List.{List}
-use mathlib.Core.Logic.{_≢_}
+use mathlib.Core.Logic.{_≢_, _↔_}
 use native.Mathlib.Omega.{arith}
 use borrow.Author.Tests.{eqb-true, eqb-false, lt-ltb, ltb-false, not-false}
 use lib.Dec.{eqb, leb, ltb, leb·zero, leb·suc-zero, leb·suc-suc, eqb·suc-zero}
@@ -19,21 +18,6 @@ use Rattle.meaning.specs.Logic.{neither}
 use Rattle.meaning.specs.Query.{hangsRight}
 use Rattle.query.specs.Rules.{stepBytes, longest, wrongLength, Right, stepOf, axisByte, roleByte, onByte, isMain, isRole}
 use Rattle.query.specs.Rules.{axisRule, roleRule, nearest, laterRule, hangRule, zeroRule, keeps}
-
--- tests
-
-pub and-both : (a b : Bool) → a ≡ true → b ≡ true → (a && b) ≡ true
-and-both a b p r = rw (p, r)
-
-pub and-first : (a b : Bool) → (a && b) ≡ true → a ≡ true
-and-first true b e = refl
-and-first false b e = e
-
-pub and-second : (a b : Bool) → (a && b) ≡ true → b ≡ true
-and-second true b e = e
-and-second false b e = absurd (true≢false (sym e))
-
--- what a step hangs on
 
 -- no step comes before step 1, so no predicate is step 1
 none-between : (on : ℕ) → (leb 1 on && ltb on 1) ≡ false
@@ -62,29 +46,42 @@ hangRule-is q (suc s) = later-is (isMain (stepOf q (suc s))) (onByte (stepOf q (
 later-role : (b s : ℕ) → isRole b ≡ true → roleRule (suc (suc s)) b ≡ true
 later-role b s e = rw (e, lt-ltb 1 (suc (suc s)) (omega arith)) (or-true (eqb b 1))
 
-pub role-hung : (q : List ℕ) (s : ℕ) → isRole (roleByte (stepOf q s)) ≡ true → hangRule q s ≡ true → roleRule (suc s) (roleByte (stepOf q s)) ≡ true
+role-hung : (q : List ℕ) (s : ℕ) → isRole (roleByte (stepOf q s)) ≡ true → hangRule q s ≡ true → roleRule (suc s) (roleByte (stepOf q s)) ≡ true
 unfolding hangRule
-role-hung q zero e h = and-both _ _ e (rw (and-first (isMain (stepOf q zero)) _ h))
+role-hung q zero e h = rw (e, and-eq-true-iff (isMain (stepOf q zero)) _ .0 h .0)
 role-hung q (suc s) e h = later-role (roleByte (stepOf q (suc s))) s e
 
-module _ (q : List ℕ) (s : ℕ) where
-  pub keeps-each :
-      keeps q s ≡ true →
-      (axisRule (axisByte (stepOf q s)) ≡ true)
-      × (roleRule (suc s) (roleByte (stepOf q s)) ≡ true)
-      × (hangRule q s ≡ true)
-      × (zeroRule (stepOf q s) ≡ true)
-  unfolding keeps
-  keeps-each e =
-      let after-axis = and-second (axisRule (axisByte (stepOf q s))) _ e in
-      let after-role = and-second (roleRule (suc s) (roleByte (stepOf q s))) _ after-axis in
-      (and-first _ _ e, and-first _ _ after-axis, and-first _ _ after-role, and-second (hangRule q s) _ after-role)
+pub keeps-each :
+    (q : List ℕ) (s : ℕ) →
+    (keeps q s ≡ true)
+    ↔ ((axisRule (axisByte (stepOf q s)) ≡ true)
+    × (roleRule (suc s) (roleByte (stepOf q s)) ≡ true)
+    × (hangRule q s ≡ true)
+    × (zeroRule (stepOf q s) ≡ true))
+unfolding keeps
+keeps-each q s =
+    let axis = and-eq-true-iff (axisRule (axisByte (stepOf q s))) _ in
+    let role = and-eq-true-iff (roleRule (suc s) (roleByte (stepOf q s))) _ in
+    let hang = and-eq-true-iff (hangRule q s) (zeroRule (stepOf q s)) in (
+      λ e.
+          let rest = role .0 (axis .0 e .1) in
+          (axis .0 e .0, rest .0, hang .0 (rest .1) .0, hang .0 (rest .1) .1),
+      λ each. axis .1 (each .0, role .1 (each .1, hang .1 (each .2, each .3))),
+    )
 
-  pub all-keeps :
-      axisRule (axisByte (stepOf q s)) ≡ true → roleRule (suc s) (roleByte (stepOf q s)) ≡ true → hangRule q s ≡ true → zeroRule (stepOf q s) ≡ true →
-      keeps q s ≡ true
-  unfolding keeps
-  all-keeps axis role hang zeros = and-both _ _ axis (and-both _ _ role (and-both _ _ hang zeros))
+pub keeps-plain :
+    (q : List ℕ) (s : ℕ) →
+    (keeps q s ≡ true)
+    ↔ ((axisRule (axisByte (stepOf q s)) ≡ true)
+    × (isRole (roleByte (stepOf q s)) ≡ true)
+    × (hangRule q s ≡ true)
+    × (zeroRule (stepOf q s) ≡ true))
+keeps-plain q s = (
+  λ e.
+      let each = keeps-each q s .0 e in
+      (each .0, and-eq-true-iff (isRole (roleByte (stepOf q s))) _ .0 (each .1) .0, each .2, each .3),
+  λ each. keeps-each q s .1 (each .0, role-hung q s (each .1) (each .2), each .2, each .3),
+)
 
 pub right-length : (n : ℕ) → wrongLength n ≡ false → Right n
 right-length n e =
