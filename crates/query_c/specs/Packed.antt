@@ -27,9 +27,9 @@ pub export-parts :
     (r % 256 ≡ badStep) × ((r / 256) % 256 ≡ k) × ((r / 256) / 256 ≡ reason)
 unfolding packed
 export-parts q r k reason gives answered =
-    let number : r ≡ badStep + 256 * k + 65536 * reason = gives ∙ ap packed answered in
-    let few = step-within q k reason answered in
-    (omega (arith, few .1), omega (arith, few .1), omega (arith, few .1))
+    let number = gives ∙ ap packed answered in
+    let few = step-within q k reason answered .1 in
+    (omega (arith, number, few), omega (arith, number, few), omega (arith, number, few))
 
 pub export-one : (q : List ℕ) (r s : ℕ) → ExportGives q r → ExportGives q s → r ≡ s
 export-one q r s a b = a ∙ sym b
