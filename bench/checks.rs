@@ -1,8 +1,11 @@
 //! Calls two query checks in turn, `before_check` and `after_check` (bench/checks), and shows what a call takes.
 
+#[path = "../tests/query/shapes.rs"]
+mod shapes;
+
+use shapes::{main_path, mixed, MOST_STEPS};
 use std::hint::black_box;
 
-const MOST_STEPS: u8 = 32;
 const ROUNDS: usize = 201;
 const CALLS: usize = 20_000;
 /// CLOCK_PROCESS_CPUTIME_ID of Linux.
@@ -20,24 +23,6 @@ fn nanoseconds() -> f64 {
     let mut time = [0; 2];
     unsafe { clock_gettime(PROCESSOR_TIME, &mut time) };
     time[0] as f64 * 1e9 + time[1] as f64
-}
-
-/// A query of main-path steps, so that every rule of every step is looked at.
-fn main_path(steps: u8) -> Vec<u8> {
-    (1..=steps).flat_map(|number| [1 + number % 2, 1, number - 1, 0, 0, number, 0, 0]).collect()
-}
-
-/// The same with every second step a predicate on the first.
-fn mixed(steps: u8) -> Vec<u8> {
-    let mut query = main_path(steps);
-    for (at, step) in query.chunks_mut(8).enumerate() {
-        if at % 2 == 1 {
-            (step[1], step[2]) = (0, 1);
-        } else if at > 0 {
-            step[2] = at as u8 - 1;
-        }
-    }
-    query
 }
 
 /// A query of which one byte is at fault.
