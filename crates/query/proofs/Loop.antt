@@ -68,8 +68,8 @@ module _ (q : List ℕ) (at s near r : ℕ) (begins : at ≡ stepBytes * s) (nea
   turn-stops broken = rw (add-one s, by-record) (turned _ (lowest-some (reasons q s) (omega (arith, by-record))))
 
   pub turn-goes-on : r ≡ 0 → judgedFrom q (steps q - (s + 1)) (s + 1) ≡ judged q
-  unfolding ifNone reasons
-  turn-goes-on kept = rw (add-one s) (turned none (lowest-none _ _ _ _ (sym by-record ∙ kept)))
+  unfolding ifNone
+  turn-goes-on kept = rw (add-one s) (turned none (lowest-none q s (sym by-record ∙ kept)))
 
 pub loop-done : (q : List ℕ) (s : ℕ) → steps q ≤ s → judgedFrom q (steps q - s) s ≡ judged q → admitted ≡ judged q
 unfolding judgedFrom

@@ -12,14 +12,14 @@ use Prim.Native.Nat.{ℕ, suc, _≤_, _<_}
 use native.Mathlib.Omega.{arith}
 use mathlib.Core.Logic.{_↔_}
 use mathlib.Core.Path.{_≡_, refl, sym, subst}
-use mathlib.Core.Bool.{Bool, true, false, not}
+use mathlib.Core.Bool.{Bool, true, not}
 use mathlib.Core.List.{List, List·Memᴰ, List·Memᴰ·tail, List·Memᴰ·not-nil}
 use mathlib.Core.Option.{Option, none, some, Option·getD}
 use lib.Dec.{T, T-not}
 use borrow.Author.Tests.{not-false}
 use Rattle.meaning.specs.Logic.{is-false}
-use Rattle.meaning.specs.Table.{Refusal, refusal, firstOr, first}
-use Rattle.meaning.specs.Table.Laws.{inOrder, Outcome, first-outcome, line-due, due-line}
+use Rattle.meaning.specs.Table.{Refusal, refusal, first}
+use Rattle.meaning.specs.Table.Laws.{inOrder, Outcome, first-is, none-is, first-outcome, line-due, due-line}
 use Rattle.query.specs.Rules.{stepOf, nearest, keeps}
 use Rattle.query.specs.Rules.Laws.{hangRule-is, keeps-each}
 use Rattle.query.specs.Reasons.{Due, wrong-axis, wrong-role, wrong-hang, not-zero, reasonsBy, reasons, reasonsWith, lowest}
@@ -81,6 +81,15 @@ module _ (q : List ℕ) (s : ℕ) where
   four-at-most (wrong-hang t) = (omega arith, omega arith)
   four-at-most (not-zero t) = (omega arith, omega arith)
 
+  -- no reason is 0
+  pub lowest-none : lowest (reasons q s) ≡ 0 → first (reasons q s) ≡ none
+  unfolding lowest
+  lowest-none e = by reason-given e
+    where
+      by : {o : Option ℕ} → Outcome (λ r. r) (reasons q s) o → Option·getD o 0 ≡ 0 → o ≡ none
+      by (none-is f) e = refl
+      by (first-is {r} m f) e = absurd (omega (arith, four-at-most (applies-due r m) .0))
+
   pub reasons-is : reasons q s ≡ reasonsWith (stepOf q s) (suc s) (nearest q s)
   unfolding reasons reasonsWith
   reasons-is = rw (hangRule-is q s)
@@ -94,11 +103,3 @@ lowest-some rs h = by (first rs) h
     by : (o : Option ℕ) → 0 < Option·getD o 0 → o ≡ some (Option·getD o 0)
     by none l = absurd (omega arith)
     by (some r) l = refl
-
-pub lowest-none : (axis role hang zero : Bool) → lowest (reasonsBy axis role hang zero) ≡ 0 → first (reasonsBy axis role hang zero) ≡ none
-unfolding lowest reasonsBy first firstOr
-lowest-none false role hang zero e = absurd (omega arith)
-lowest-none true false hang zero e = absurd (omega arith)
-lowest-none true true false zero e = absurd (omega arith)
-lowest-none true true true false e = absurd (omega arith)
-lowest-none true true true true e = refl
