@@ -3,15 +3,18 @@
 --   made-names, made-hung         the slots
 --   made-deep, made-main, made-first      sets that a test of each step makes
 --   made-plain                    the set that the slots of `made-hung` make
+--   made-stars, made-buckets      the stars among the steps, and the buckets of their names
 --   made                          the plan that is put together of them
 --
 -- Assumes nothing.
 use Prim.Native.Nat.{ℕ, _+_, _-_}
-use mathlib.Core.Path.{_≡_, sym, ap, ap₂, _∙_}
+use mathlib.Core.Path.{_≡_, refl, sym, ap, ap₂, _∙_}
 use mathlib.Core.Bool.{Bool, not}
-use mathlib.Core.List.{List, map}
+use mathlib.Core.List.{List, [], map, append-nil}
 use lib.Dec.{eqb}
-use lib.ListN.{length, getD, length-map}
+use lib.ListN.{length, getD, take, length-map}
+use lib.Seq.{take-at}
+use Rattle.meaning.specs.Name.{star}
 use Rattle.meaning.specs.Query.{Query, Steps, Numbered, hangs, allStep}
 use Rattle.meaning.specs.Selection.{start}
 use Rattle.sets.specs.Set.{maskOf}
@@ -23,12 +26,13 @@ use Rattle.plan.specs.Order.{order, mask}
 use Rattle.plan.specs.Places.Laws.{order-length}
 use Rattle.plan.specs.Places.Plan.{none-hangs, first-order}
 use Rattle.plan.specs.Plan.{plan}
-use Rattle.plan.specs.Planned.{stepAt, sizeOf, passed, before, zeros, filled, padded, orderOf, columns, planOf}
+use Rattle.plan.specs.Asked.{starsOf, bucket}
+use Rattle.plan.specs.Planned.{stepAt, sizeOf, passed, before, zeros, filled, padded, orderOf, bucketCount, severalSteps, columns, planOf}
 use Rattle.query.specs.Decode.Laws.{from-length}
 use Rattle.plan.specs.Planned.Steps.{Whose, order-whose, read-table, read-mask}
 use Rattle.plan.specs.declared.Plan.{Plan}
 use Rattle.plan.specs.declared.Test.{Test}
-use Rattle.plan.specs.declared.Test.the-variants.{OnMain, Starts, Deep}
+use Rattle.plan.specs.declared.Test.the-variants.{OnMain, Starts, Deep, Star}
 
 module _ (q : List ℕ) (n : ℕ) where
   abbrev Q : Query
@@ -90,33 +94,56 @@ module _ (q : List ℕ) (n : ℕ) where
       ∙ read-mask (λ p. mask (order Q) (λ t i. hangs t (p .number))) (zeros (mostSteps - length (plan Q .hung))) (λ m. eqb m 0)
       (λ st s. allStep Q 1 (λ t i. not (hangs t s))) (every-all (λ p. none-hangs Q (p .number)) (order Q))
 
+  pub made-stars : maskOf n (λ t. passed Star (stepAt q (slot t))) ≡ starsOf (plan Q .tests)
+  unfolding plan
+  made-stars =
+      made-passed Star
+      ∙ sym (read-mask (λ p. p .step .name) [] (λ x. eqb x star) (λ st i. eqb (st .name) star) (every-all (λ p. refl) (order Q)))
+      ∙ ap₂ (λ k xs. maskOf k (λ t. eqb (getD xs t 0) star)) (sym (length-map (order Q) _)) (append-nil (map (λ p. p .step .name) (order Q)))
+
+  -- the first n names are those of the steps
+  pub made-buckets :
+      (names : List ℕ) → names ≡ filled (plan Q .tests) →
+      tableOf bucketCount (bucket severalSteps bucketCount (take n names)) ≡ tableOf bucketCount (bucket severalSteps bucketCount (plan Q .tests))
+  unfolding plan
+  made-buckets names e =
+      ap (λ T. tableOf bucketCount (bucket severalSteps bucketCount T))
+      (ap (take n) e ∙ take-at (plan Q .tests) (zeros (mostSteps - length (plan Q .tests))) n (length-map (order Q) _ ∙ long))
+
 same-plan :
-    {names names′ hung hung′ : List ℕ} {size size′ deep deep′ main main′ plain plain′ first first′ : ℕ} →
-    names ≡ names′ → hung ≡ hung′ → size ≡ size′ → deep ≡ deep′ → main ≡ main′ → plain ≡ plain′ → first ≡ first′ →
+    {names names′ hung hung′ buckets buckets′ : List ℕ} {size size′ deep deep′ main main′ plain plain′ first first′ stars stars′ : ℕ} →
+    names ≡ names′ → hung ≡ hung′ → size ≡ size′ → deep ≡ deep′ → main ≡ main′ → plain ≡ plain′ → first ≡ first′ → stars ≡ stars′ →
+    buckets ≡ buckets′ →
     _≡_ {A = Plan}
-    (record { names = names; hung = hung; size = size; deep = deep; main = main; plain = plain; first = first })
-    (record { names = names′; hung = hung′; size = size′; deep = deep′; main = main′; plain = plain′; first = first′ })
-same-plan a b c d e f g = cc
+    (record { names = names; hung = hung; size = size; deep = deep; main = main; plain = plain; first = first; stars = stars; buckets = buckets })
+    (record { names = names′; hung = hung′; size = size′; deep = deep′; main = main′; plain = plain′; first = first′; stars = stars′; buckets = buckets′ })
+same-plan a b c d e f g h i = cc
 
 pub made :
-    (q : List ℕ) {size : ℕ} {slots names hung : List ℕ} {deep main plain first : ℕ} → size ≡ sizeOf (steps q) → slots ≡ orderOf q size →
+    (q : List ℕ) {size : ℕ} {slots names hung buckets : List ℕ} {deep main plain first stars : ℕ} → size ≡ sizeOf (steps q) → slots ≡ orderOf q size →
     names ≡ padded size (λ t. stepAt q (getD slots t 0) .name) →
     hung ≡ padded size (λ t. maskOf size (λ u. hangs (stepAt q (getD slots u 0)) (getD slots t 0 + 1))) →
     deep ≡ maskOf size (λ t. passed Deep (stepAt q (getD slots t 0))) → main ≡ maskOf size (λ t. passed OnMain (stepAt q (getD slots t 0))) →
     plain ≡ maskOf size (λ t. eqb (getD hung t 0) 0) → first ≡ maskOf size (λ t. passed Starts (stepAt q (getD slots t 0))) →
-    record { names = names; hung = hung; size = size; deep = deep; main = main; plain = plain; first = first } ≡ planOf q
+    stars ≡ maskOf size (λ t. passed Star (stepAt q (getD slots t 0))) →
+    buckets ≡ tableOf bucketCount (bucket severalSteps bucketCount (take size names)) →
+    record { names = names; hung = hung; size = size; deep = deep; main = main; plain = plain; first = first; stars = stars; buckets = buckets }
+    ≡ planOf q
 unfolding planOf columns
-made q {size} {slots} {hung} e o n h d m p f =
-    same-plan (n ∙ ap (λ o. padded size (λ t. stepAt q (getD o t 0) .name)) o ∙ made-names q size) hangs-made size-made
+made q {size} {slots} {names} {hung} e o n h d m p f s b =
+    same-plan names-made hangs-made size-made
     (d ∙ set Deep ∙ made-deep q size) (m ∙ set OnMain ∙ made-main q size)
     (p ∙ ap (λ h. maskOf size (λ t. eqb (getD h t 0) 0)) hangs-made ∙ made-plain q size)
-    (f ∙ set Starts ∙ made-first q size)
+    (f ∙ set Starts ∙ made-first q size) (s ∙ set Star ∙ made-stars q size) (b ∙ made-buckets q size names names-made)
     ∙ ap (λ k. columns (plan (decodeFrom q k 0))) e
   where
     set :
         (test : Test) →
         maskOf size (λ t. passed test (stepAt q (getD slots t 0))) ≡ maskOf size (λ t. passed test (stepAt q (getD (orderOf q size) t 0)))
     set test = ap (λ o. maskOf size (λ t. passed test (stepAt q (getD o t 0)))) o
+
+    names-made : names ≡ filled (plan (decodeFrom q size 0) .tests)
+    names-made = n ∙ ap (λ o. padded size (λ t. stepAt q (getD o t 0) .name)) o ∙ made-names q size
 
     hangs-made : hung ≡ filled (plan (decodeFrom q size 0) .hung)
     hangs-made = h ∙ ap (λ o. padded size (λ t. maskOf size (λ u. hangs (stepAt q (getD o u 0)) (getD o t 0 + 1)))) o ∙ made-hung q size

@@ -4,6 +4,7 @@
 --   Every      a fact at every member of a list
 --   Order      the order in which a query's steps are given bits, and masks in it
 --   Plan       the plan, and the engine's operations on masks
+--   Asked      which steps ask for a name, told by buckets
 --   Places     the places of the steps, and when a plan is right
 --   Planned    what plan is made of a query's bytes
 --
@@ -12,5 +13,6 @@ pub mod Any
 pub mod Every
 pub mod Order
 pub mod Plan
+pub mod Asked
 pub mod Places
 pub mod Planned

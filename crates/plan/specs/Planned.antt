@@ -11,11 +11,12 @@
 --   filled xs          32 slots: xs, then 0
 --   padded n f         32 slots: f t in slot t under n, 0 in the others
 --   orderOf q n        the first n steps of the bytes q in the order of their places, as the numbers of steps before them
+--   bucketCount        how many buckets the names are put into;  severalSteps: what a bucket says for several steps
 --   columns P          a plan as the code's struct
 --   planOf q           the plan that is made of the bytes q
 --   PlanGives q r      THE PROMISE of `plan_of`: r is that plan
 --   Columns Q r        r is the plan of the query Q, column by column
---   Long r             r has 32 slots in each column, and 32 steps at most
+--   Long r             r has 32 slots in each column, 64 buckets, and 32 steps at most
 --
 -- Assumes nothing. NOT here: the plan of a query (Plan), that planOf is that of an admitted query (Planned.Laws).
 pub mod Steps
@@ -27,8 +28,10 @@ use mathlib.Core.Bool.{Bool, true, false, _&&_}
 use mathlib.Core.List.{List, _++_, map}
 use lib.Dec.{eqb}
 use lib.ListN.{length, replicate}
+use Rattle.meaning.specs.Name.{star}
 use Rattle.meaning.specs.Query.{Step, Query, Numbered, hangs, goesDeep}
 use Rattle.sets.specs.Table.{tableOf}
+use Rattle.plan.specs.Asked.{starsOf, bucket}
 use Rattle.query.specs.Rules.{mostSteps, steps, stepOf}
 use Rattle.query.specs.Decode.{decodeStep, decodeFrom}
 use Rattle.plan.specs.Order.{order}
@@ -36,7 +39,7 @@ use Rattle.plan.specs.Plan as Of
 use Rattle.plan.specs.Plan.{plan}
 use Rattle.plan.specs.declared.Plan.{Plan}
 use Rattle.plan.specs.declared.Test.{Test}
-use Rattle.plan.specs.declared.Test.the-variants.{OnMain, Starts, Deep, HangsOn}
+use Rattle.plan.specs.declared.Test.the-variants.{OnMain, Starts, Deep, Star, HangsOn}
 
 abbrev pub stepAt : List ℕ → ℕ → Step
 stepAt q s = decodeStep (stepOf q s)
@@ -55,6 +58,7 @@ passed OnMain st = st .main
 passed Starts st = starts st
 passed Deep st = goesDeep (st .axis)
 passed (HangsOn s) st = hangs st (s + 1)
+passed Star st = eqb (st .name) star
 
 abbrev pub before : Numbered → ℕ
 before p = p .number - 1
@@ -75,6 +79,13 @@ padded n f = filled (tableOf n f)
 unfoldable pub orderOf : List ℕ → ℕ → List ℕ
 orderOf q n = filled (map before (order (decodeFrom q n 0)))
 
+abbrev pub bucketCount : ℕ
+bucketCount = 64
+
+-- no step is at this place
+abbrev pub severalSteps : ℕ
+severalSteps = mostSteps
+
 unfoldable pub columns : Of.Plan → Plan
 columns P =
     record {
@@ -85,6 +96,8 @@ columns P =
       main = P .main;
       plain = P .plain;
       first = P .first;
+      stars = starsOf (P .tests);
+      buckets = tableOf bucketCount (bucket severalSteps bucketCount (P .tests));
     }
 
 unfoldable pub planOf : List ℕ → Plan
@@ -101,8 +114,11 @@ pub record Columns (Q : Query) (r : Plan) : Type 0 where
   pub main : r .main ≡ plan Q .main
   pub plain : r .plain ≡ plan Q .plain
   pub first : r .first ≡ plan Q .first
+  pub stars : r .stars ≡ starsOf (plan Q .tests)
+  pub buckets : r .buckets ≡ tableOf bucketCount (bucket severalSteps bucketCount (plan Q .tests))
 
 pub record Long (r : Plan) : Type 0 where
   pub names : length (r .names) ≡ mostSteps
   pub hung : length (r .hung) ≡ mostSteps
+  pub buckets : length (r .buckets) ≡ bucketCount
   pub size : r .size ≤ mostSteps

@@ -6,12 +6,20 @@
 ghost use mathlib.Core.Path.{_≡_};
 ghost use Prim.Native.Nat.{_+_, _≤_, _<_};
 ghost use lib.Dec.{eqb};
-ghost use lib.ListN.{getD};
+ghost use lib.ListN.{length, getD, take};
 ghost use Rattle.meaning.specs.Query.{hangs, goesDeep};
 ghost use Rattle.sets.specs.Set.{maskOf};
+ghost use Rattle.sets.specs.Table.{tableOf};
 ghost use Rattle.query.specs.Rules.{stepBytes, stepOf};
-ghost use Rattle.plan.specs.Planned.{stepAt, sizeOf, starts, passed, placed, orderOf, padded, PlanGives};
+ghost use Rattle.plan.specs.Asked.{addedTo, bucket, filed};
+ghost use Rattle.plan.specs.Planned.{bucketCount, severalSteps, stepAt, sizeOf, starts, passed, placed, orderOf, padded, PlanGives};
 use query::AxisByte;
+
+// How many buckets the names are put into, by their remainder.
+pub const BUCKETS: usize = 64;
+
+// What a bucket says where several steps ask for names of it: no place, as there are at most so many steps.
+pub const SEVERAL: u8 = 32;
 
 pub struct Plan {
     // The name test of the step at each place; 0 past the last step, as in `hung`.
@@ -28,6 +36,10 @@ pub struct Plan {
     pub plain: u32,
     // The first main-path step.
     pub first: u32,
+    // The steps that ask for every name.
+    pub stars: u32,
+    // For each bucket of names the place of the only step that asks for a name of it; `SEVERAL` for several, 0 for none.
+    pub buckets: [u8; 64],
 }
 
 // A test of a step.
@@ -38,6 +50,8 @@ enum Test {
     Starts,
     // On the descendant axis.
     Deep,
+    // "0 is * and matches every element"
+    Star,
     // In a predicate, and it hangs on the step that has so many steps before it.
     HangsOn(u8),
 }
@@ -54,6 +68,8 @@ pub fn plan_of(query: &[u8]) -> Plan
     let main = set_of(query, order, size, Test::OnMain);
     let plain = plain_of(hung, size);
     let first = set_of(query, order, size, Test::Starts);
+    let stars = set_of(query, order, size, Test::Star);
+    let buckets = buckets_of(names, size);
     Plan {
         names: names,
         hung: hung,
@@ -62,6 +78,8 @@ pub fn plan_of(query: &[u8]) -> Plan
         main: main,
         plain: plain,
         first: first,
+        stars: stars,
+        buckets: buckets,
     }
 }
 
@@ -158,6 +176,39 @@ fn plain_of(hung: [u32; 32], size: usize) -> u32
     set
 }
 
+// The buckets for the first `size` names. The steps are gone through from the last on, so a bucket that says 0 has had no step before step 0 comes.
+fn buckets_of(names: [u16; 32], size: usize) -> [u8; 64]
+    requires { ⌜ size ≤ 32 ⌝ }
+    ensures { λ r. ⌜ r ≡ tableOf bucketCount (bucket severalSteps bucketCount (take size names)) ⌝ }
+{
+    let mut buckets = [0u8; 64];
+    let mut left = size;
+    while 0 < left {
+        left -= 1;
+        file(&mut buckets, names[left], left as u8);
+    }
+    buckets
+}
+
+// A step that asks for this name is added to the name's bucket; a star is in none.
+fn file(buckets: &mut [u8], name: u16, place: u8)
+    requires { ⌜ length (now buckets) ≡ bucketCount ⌝ }
+    ensures { λ r. ⌜ now (buckets .exit) ≡ filed severalSteps bucketCount place name (now (buckets .entry)) ⌝ }
+{
+    if name == 0 {
+        return;
+    }
+    let at = (name % 64) as usize;
+    buckets[at] = added_to(buckets[at], place);
+}
+
+// What a bucket says with one step more before those that it knows.
+fn added_to(later: u8, place: u8) -> u8
+    ensures { λ r. ⌜ r ≡ addedTo severalSteps place later ⌝ }
+{
+    if later == 0 { place } else { SEVERAL }
+}
+
 fn passes(query: &[u8], step: u8, test: Test) -> bool
     ensures { λ r. ⌜ r ≡ passed test (stepAt (now (query .entry)) step) ⌝ }
 {
@@ -165,6 +216,7 @@ fn passes(query: &[u8], step: u8, test: Test) -> bool
         Test::OnMain => is_main(query, step),
         Test::Starts => is_start(query, step),
         Test::Deep => goes_deep(query, step),
+        Test::Star => name_of(query, step) == 0,
         Test::HangsOn(on) => hangs_on(query, step, on),
     }
 }

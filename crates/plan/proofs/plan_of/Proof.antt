@@ -28,13 +28,20 @@ plain-of-requires c κs = search needs
 set-of-requires-3 : tie.Need-set-of-requires-3
 set-of-requires-3 c κs = search needs
 
+set-of-requires-4 : tie.Need-set-of-requires-4
+set-of-requires-4 c κs = search needs
+
+buckets-of-requires : tie.Need-buckets-of-requires
+buckets-of-requires c κs = search needs
+
 returns : tie.Need-returns
 returns c =
-    let hanging = c .before .before .before .before in
+    let hanging = c .before .before .before .before .before .before in
     let sized = hanging .before .before .before in
     made (sized .before .before .args .query .now) (sized .size-of .ensures) (hanging .before .before .order-of .ensures)
-    (hanging .before .names-of .ensures) (hanging .hung-of .ensures) (c .before .before .before .set-of .ensures) (c .before .before .set-of2 .ensures)
-    (c .before .plain-of .ensures) (c .set-of3 .ensures)
+    (hanging .before .names-of .ensures) (hanging .hung-of .ensures) (c .before .before .before .before .before .set-of .ensures)
+    (c .before .before .before .before .set-of2 .ensures) (c .before .before .before .plain-of .ensures) (c .before .before .set-of3 .ensures)
+    (c .before .set-of4 .ensures) (c .buckets-of .ensures)
 
 pub plan-of-spec : {M : Type 1} → statement M
 plan-of-spec =
@@ -48,4 +55,6 @@ plan-of-spec =
     set-of-requires-2
     plain-of-requires
     set-of-requires-3
+    set-of-requires-4
+    buckets-of-requires
     returns)

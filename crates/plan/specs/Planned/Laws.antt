@@ -22,6 +22,7 @@ use Rattle.query.specs.Answer.{admitted, answerTo}
 use Rattle.query.specs.Answer.Laws.{admitted-exactly}
 use Rattle.query.specs.Decode.{decodeFrom, decode, Bytes}
 use Rattle.query.specs.Decode.Laws.{decode-length, meant}
+use Rattle.sets.specs.Table.{length-tableOf}
 use Rattle.plan.specs.Order.{order}
 use Rattle.plan.specs.Plan.{plan}
 use Rattle.plan.specs.Plan.Laws.{plan-size}
@@ -29,7 +30,7 @@ use Rattle.plan.specs.Places.{OrderRight, PlanRight}
 use Rattle.plan.specs.Places.Laws.{order-length}
 use Rattle.plan.specs.Places.Order.{order-right}
 use Rattle.plan.specs.Places.Plan.{plan-right}
-use Rattle.plan.specs.Planned.{sizeOf, planned, zeros, filled, columns, planOf, PlanGives, Columns, Long}
+use Rattle.plan.specs.Planned.{sizeOf, planned, zeros, filled, bucketCount, columns, planOf, PlanGives, Columns, Long}
 use Rattle.query.specs.Decode.Laws.{from-length}
 use Rattle.plan.specs.declared.Plan.{Plan}
 
@@ -64,6 +65,8 @@ columns-are Q =
       main = refl;
       plain = refl;
       first = refl;
+      stars = refl;
+      buckets = refl;
     }
 
 pub columns-admitted : (q : List ℕ) (r : Plan) → answerTo q ≡ admitted → r ≡ planOf q → Columns (decode q) r
@@ -86,6 +89,7 @@ planOf-long q =
     record {
       names = filled-long (plan (planned q) .tests) (omega (arith, plan-size (planned q)));
       hung = filled-long (plan (planned q) .hung) (omega (arith, plan-hung (planned q)));
+      buckets = length-tableOf bucketCount _;
       size = omega (arith, plan-size (planned q));
     }
 

@@ -1,0 +1,174 @@
+-- The steps told by buckets are those that a name passes. For any number of steps, any tests and any number of buckets.
+--
+--   bucket-says        a bucket says the place of each step that asks for a name of it, or m
+--   own-compared       so each step that is no star is compared with its own name
+--   quick-plain        THE LAW: on what is kept for tests, quick tells the steps whose tests the name passes
+--   test-kept          and the test of each step that it goes by is the one that was kept
+--   quick-tests        on anything that is kept, quick tells the steps whose tests testOf the name passes
+--
+-- Assumes that there are at most m steps, and for quick-tests a name of 4 bytes.
+use Prim.Native.Nat.{ℕ, zero, suc, _+_, _%_, _≤_, _<_}
+use native.Mathlib.Nat.{zero-add}
+use native.Mathlib.Omega.{arith}
+use mathlib.Core.Path.{_≡_, refl, sym, ap, ap₂, _∙_, subst}
+use mathlib.Core.Bool.{Bool, true, false, not, _&&_, _||_, cond, and-false, or-true, true≢false}
+use mathlib.Core.Logic.{_⊎_, inl, inr}
+use mathlib.Core.List.{List, [], _∷_}
+use lib.Dec.{eqb, ltb}
+use lib.ListN.{length, getD}
+use borrow.Author.Tests.{eqb-true, eqb-false, eq-eqb, ne-eqb, lt-ltb, le-ltb, ltb-true, ltb-false}
+use Rattle.meaning.specs.Name.{star, passes}
+use Rattle.sets.specs.Set.{member, maskOf}
+use Rattle.sets.specs.Set.Of.{member-maskOf, maskOf-agree}
+use Rattle.plan.specs.Asked.{Asking, compared, passed, quick, nobody, testOf, starsOf, belongs, addedTo, bucketFrom, bucket, placeBy, asking}
+
+-- what a bucket says
+
+module _ (m w s : ℕ) (some : 0 < m) where
+  added-some : (t later : ℕ) → 0 < t → addedTo m t later ≡ 0 → ⊥
+  added-some t later h = go (eqb later 0)
+    where
+      go : (b : Bool) → cond b t m ≡ 0 → ⊥
+      go true e = absurd (omega arith)
+      go false e = absurd (omega arith)
+
+  abbrev None : List ℕ → Type 0
+  None ns = (i : ℕ) → i < length ns → belongs w s (getD ns i 0) ≡ false
+
+  -- it says 0 of the steps after step 0: none of them asks for a name of it
+  none-belongs : (ns : List ℕ) (t : ℕ) → 0 < t → bucketFrom m w s t ns ≡ 0 → None ns
+  unfolding bucketFrom
+  none-belongs [] t h e = λ i l. absurd (omega arith)
+  none-belongs (n ∷ ns) t h e = go (bucketFrom m w s (suc t) ns) (none-belongs ns (suc t) (omega arith)) (belongs w s n) refl e
+    where
+      go : (later : ℕ) → (later ≡ 0 → None ns) → (b : Bool) → belongs w s n ≡ b → cond b (addedTo m t later) later ≡ 0 → None (n ∷ ns)
+      go later rest true p q i l = absurd (added-some t later h q)
+      go later rest false p q zero l = p
+      go later rest false p q (suc i) l = rest q i (omega arith)
+
+  abbrev Says : ℕ → ℕ → List ℕ → Type 0
+  Says said t ns = (i : ℕ) → i < length ns → belongs w s (getD ns i 0) ≡ true → (said ≡ t + i) ⊎ (said ≡ m)
+
+  says-from : (ns : List ℕ) (t : ℕ) → Says (bucketFrom m w s t ns) t ns
+  unfolding bucketFrom
+  says-from [] t = λ i l h. absurd (omega arith)
+  says-from (n ∷ ns) t =
+      go (bucketFrom m w s (suc t) ns) (none-belongs ns (suc t) (omega arith)) (says-from ns (suc t)) (belongs w s n) refl
+    where
+      here : (b : Bool) → (cond b t m ≡ t + 0) ⊎ (cond b t m ≡ m)
+      here true = inl (omega arith)
+      here false = inr refl
+
+      another : (later i : ℕ) → (later ≡ 0 → None ns) → i < length ns → belongs w s (getD ns i 0) ≡ true → (b : Bool) → eqb later 0 ≡ b → cond b t m ≡ m
+      another later i none l h true z = absurd (true≢false (sym h ∙ none (eqb-true later 0 z) i l))
+      another later i none l h false z = refl
+
+      next : (later i : ℕ) → (later ≡ suc t + i) ⊎ (later ≡ m) → (later ≡ t + suc i) ⊎ (later ≡ m)
+      next later i (inl e) = inl (omega arith)
+      next later i (inr e) = inr e
+
+      go :
+          (later : ℕ) → (later ≡ 0 → None ns) → Says later (suc t) ns → (b : Bool) → belongs w s n ≡ b →
+          Says (cond b (addedTo m t later) later) t (n ∷ ns)
+      go later none rest true p zero l h = here (eqb later 0)
+      go later none rest true p (suc i) l h = inr (another later i none (omega arith) h (eqb later 0) refl)
+      go later none rest false p zero l h = absurd (true≢false (sym h ∙ p))
+      go later none rest false p (suc i) l h = next later i (rest i (omega arith) h)
+
+  pub bucket-says : (T : List ℕ) (i : ℕ) → i < length T → belongs w s (getD T i 0) ≡ true → (bucket m w T s ≡ i) ⊎ (bucket m w T s ≡ m)
+  bucket-says T i l h = subst (λ k. (bucket m w T s ≡ k) ⊎ (bucket m w T s ≡ m)) (zero-add i) (says-from T 0 i l h)
+
+-- a name that is none passes as a star's test alone
+passed-star : (t n : ℕ) → t ≡ star → passes t n ≡ true
+unfolding passes
+passed-star t n e = ap (λ b. b || eqb t n) (eq-eqb t star e)
+
+passed-name : (t n : ℕ) → (t ≡ star → ⊥) → passes t n ≡ eqb t n
+unfolding passes
+passed-name t n f = ap (λ b. b || eqb t n) (ne-eqb t star f)
+
+-- what is kept for tests
+
+module _ (few m w : ℕ) (some : 0 < m) (T : List ℕ) (fits : length T ≤ m) (t : ℕ) (l : t < length T) where
+  abbrev A : Asking
+  A = asking few m w T
+
+  abbrev n : ℕ
+  n = getD T t 0
+
+  star-is : member (A .stars) t ≡ eqb n star
+  star-is = member-maskOf (length T) (λ u. eqb (getD T u 0) star) t ∙ ap (λ b. b && eqb n star) (lt-ltb t (length T) l)
+
+  pub own-compared : (n ≡ star → ⊥) → compared A n t ≡ true
+  unfolding compared
+  own-compared f = go (ltb (length T) few) (bucket-says m w (n % w) some T t l (ap₂ (λ a b. not a && b) (ne-eqb n star f) (eq-eqb (n % w) (n % w) refl)))
+    where
+      past : (said : ℕ) → length T ≤ said → (eqb said t || not (ltb said (length T))) ≡ true
+      past said h = ap (λ b. eqb said t || not b) (le-ltb said (length T) h) ∙ or-true (eqb said t)
+
+      go :
+          (b : Bool) → (bucket m w T (n % w) ≡ t) ⊎ (bucket m w T (n % w) ≡ m) →
+          (eqb (cond b (length T) (bucket m w T (n % w))) t || not (ltb (cond b (length T) (bucket m w T (n % w))) (length T))) ≡ true
+      go true says = past (length T) (omega arith)
+      go false (inl e) = ap (λ b. b || not (ltb (bucket m w T (n % w)) (length T))) (eq-eqb _ t e)
+      go false (inr e) = past (bucket m w T (n % w)) (omega arith)
+
+  passed-plain : (x : ℕ) → passed A x t ≡ passes n x
+  unfolding passed
+  passed-plain x = rw star-is (go (eqb n star) refl (eqb n x) refl)
+    where
+      own : n ≡ x → (n ≡ star → ⊥) → (not (eqb x star) && (true && compared A x t)) ≡ true
+      own e f = rw (← e) (ap₂ (λ a b. not a && b) (ne-eqb n star f) (own-compared f))
+
+      go : (a : Bool) → eqb n star ≡ a → (b : Bool) → eqb n x ≡ b → (a || (not (eqb x star) && (b && compared A x t))) ≡ passes n x
+      go true p b q = sym (passed-star n x (eqb-true n star p))
+      go false p true q = own (eqb-true n x q) (eqb-false n star p) ∙ sym (passed-name n x (eqb-false n star p) ∙ q)
+      go false p false q = and-false (not (eqb x star)) ∙ sym (passed-name n x (eqb-false n star p) ∙ q)
+
+  pub test-kept : testOf A t ≡ n
+  unfolding testOf
+  test-kept = rw star-is (go (eqb n star) refl)
+    where
+      go : (a : Bool) → eqb n star ≡ a → cond a star (cond (not (eqb n star) && compared A n t) n nobody) ≡ n
+      go true p = sym (eqb-true n star p)
+      go false p = ap (λ b. cond b n nobody) (ap₂ (λ a b. not a && b) p (own-compared (eqb-false n star p)))
+
+pub quick-plain :
+    (few m w : ℕ) (T : List ℕ) (x : ℕ) → 0 < m → length T ≤ m → quick (asking few m w T) x ≡ maskOf (length T) (λ t. passes (getD T t 0) x)
+unfolding quick
+quick-plain few m w T x some fits = maskOf-agree (length T) _ _ (λ t l. passed-plain few m w some T fits t l x)
+
+-- anything that is kept
+
+module _ (A : Asking) (x : ℕ) (small : x < nobody) where
+  passed-test : (t : ℕ) → passed A x t ≡ passes (testOf A t) x
+  unfolding passed testOf
+  passed-test t = go (member (A .stars) t) (eqb (A .name t) star) refl (compared A (A .name t) t) refl (eqb (A .name t) x) refl
+    where
+      n : ℕ
+      n = A .name t
+
+      no-one : passes nobody x ≡ false
+      no-one = passed-name nobody x (λ e. absurd (omega arith)) ∙ ne-eqb nobody x (λ e. absurd (omega arith))
+
+      same : n ≡ x → {c : Bool} → compared A n t ≡ c → compared A x t ≡ c
+      same e p = ap (λ y. compared A y t) (sym e) ∙ p
+
+      go :
+          (s a : Bool) → eqb n star ≡ a → (c : Bool) → compared A n t ≡ c → (b : Bool) → eqb n x ≡ b →
+          (s || (not (eqb x star) && (b && compared A x t))) ≡ passes (cond s star (cond (not a && c) n nobody)) x
+      go true a p c q b r = sym (passed-star star x refl)
+      go false true p c q true r =
+          ap (λ b. not b && (true && compared A x t)) (eq-eqb x star (sym (eqb-true n x r) ∙ eqb-true n star p)) ∙ sym no-one
+      go false true p c q false r = and-false (not (eqb x star)) ∙ sym no-one
+      go false false p true q true r =
+          let e : n ≡ x = eqb-true n x r in
+          ap₂ (λ a b. not a && b) (ap (λ y. eqb y star) (sym e) ∙ p) (same e q)
+          ∙ sym (passed-name n x (eqb-false n star p) ∙ r)
+      go false false p true q false r = and-false (not (eqb x star)) ∙ sym (passed-name n x (eqb-false n star p) ∙ r)
+      go false false p false q true r = ap (λ b. not (eqb x star) && b) (same (eqb-true n x r) q) ∙ and-false (not (eqb x star)) ∙ sym no-one
+      go false false p false q false r = and-false (not (eqb x star)) ∙ sym no-one
+
+  pub quick-tests : quick A x ≡ maskOf (A .size) (λ t. passes (testOf A t) x)
+  unfolding quick
+  quick-tests = maskOf-agree (A .size) _ _ (λ t l. passed-test t)
