@@ -2,40 +2,58 @@
 // element, outermost first, which has record l - 1.
 ghost use mathlib.Core.Path.{_≡_};
 ghost use Prim.Native.Nat.{_+_, _≤_, _<_};
+ghost use lib.Dec.{eqb};
 ghost use lib.ListN.{length};
-ghost use Rattle.meaning.specs.Name.{passes};
 ghost use Rattle.meaning.specs.Limits.{depthLimit, elementsNeeded};
-ghost use Rattle.sets.specs.Set.{without};
+ghost use Rattle.sets.specs.Set.{without, maskOf, onlyIf};
 ghost use Rattle.plan.specs.Plan.{named, meets, lift, turn, lastGiven};
 ghost use Rattle.engine.specs.Quick.{sureAt, possibleAt};
 ghost use Rattle.element.specs.Element.{elementsIn};
-ghost use Rattle.plan_bytes.specs.Kept.{planRoom, keptIn};
+ghost use Rattle.plan_bytes.specs.Kept.{planRoom, askingIn, keptIn};
 ghost use Rattle.elements.specs.Elements.{risenIn, refreshedFrom, pushedIn};
 
-// "0 is * and matches every element"
-fn passes(test: u32, x: u32) -> bool
-    ensures { λ r. ⌜ r ≡ passes test x ⌝ }
+// The step at this place alone if it asks for the name `x`, else none.
+fn asks(kept: &[u8], place: usize, x: u32) -> u32
+    requires { ⌜ (length (now kept) ≡ planRoom) × (place < 32) ⌝ }
+    ensures { λ r. ⌜ r ≡ onlyIf (eqb (askingIn (now (kept .entry)) .name place) x) place ⌝ }
 {
-    if test == 0 {
-        return true;
-    }
-    test == x
+    let hit = plan_bytes::name(kept, place) == x;
+    (hit as u32) << place
 }
 
-// The steps whose name test an element named `x` passes.
+// The steps that ask for the name `x`, each compared with it.
+fn asking(kept: &[u8], size: usize, x: u32) -> u32
+    requires { ⌜ (length (now kept) ≡ planRoom) × (size ≤ 32) ⌝ }
+    ensures { λ r. ⌜ r ≡ maskOf size (λ t. eqb (askingIn (now (kept .entry)) .name t) x) ⌝ }
+{
+    let mut set: u32 = 0;
+    let mut place: usize = 0;
+    while place < size {
+        set = set | asks(kept, place, x);
+        place += 1;
+    }
+    set
+}
+
+// The steps whose name test an element named `x` passes: those that ask for every name, and those that ask for `x`, told by the bucket of `x`. No step asks
+// for the name 0.
 pub fn named(kept: &[u8], x: u32) -> u32
     requires { ⌜ length (now kept) ≡ planRoom ⌝ }
     ensures { λ r. ⌜ r ≡ named (keptIn (now (kept .entry))) x ⌝ }
 {
     let size = plan_bytes::size(kept);
-    let mut set: u32 = 0;
-    let mut place: usize = 0;
-    while place < size {
-        let hit = passes(plan_bytes::name(kept, place), x);
-        set = set | ((hit as u32) << place);
-        place += 1;
+    let stars = plan_bytes::stars(kept);
+    if x == 0 {
+        return stars;
     }
-    set
+    if size < plan_bytes::FEW {
+        return stars | asking(kept, size, x);
+    }
+    let place = plan_bytes::bucket(kept, x);
+    if place < size {
+        return stars | asks(kept, place, x);
+    }
+    stars | asking(kept, size, x)
 }
 
 // The steps of `pass` all of whose predicate steps are in `below`.

@@ -4,7 +4,8 @@ ghost use Prim.Native.Nat.{_+_, _*_, _≤_};
 ghost use lib.ListN.{length, getD, set};
 ghost use Rattle.words.specs.Words.{word, words};
 
-fn word(a: u8, b: u8, c: u8, d: u8) -> u32
+// The number of 4 bytes.
+pub fn word(a: u8, b: u8, c: u8, d: u8) -> u32
     ensures { λ r. ⌜ r ≡ word a b c d ⌝ }
 {
     a as u32 + 256 * (b as u32 + 256 * (c as u32 + 256 * (d as u32)))

@@ -5,21 +5,25 @@
 --   quick-plain        THE LAW: on what is kept for tests, quick tells the steps whose tests the name passes
 --   test-kept          and the test of each step that it goes by is the one that was kept
 --   quick-tests        on anything that is kept, quick tells the steps whose tests testOf the name passes
+--   quick-none, quick-one, quick-all      what quick tells for no name, and for a name that is compared with one step or with all
+--   test-same          what is kept alike for a step gives it one test
+--   bucket-most        a bucket says m at most
 --
 -- Assumes that there are at most m steps, and for quick-tests a name of 4 bytes.
 use Prim.Native.Nat.{ℕ, zero, suc, _+_, _%_, _≤_, _<_}
 use native.Mathlib.Nat.{zero-add}
 use native.Mathlib.Omega.{arith}
 use mathlib.Core.Path.{_≡_, refl, sym, ap, ap₂, _∙_, subst}
-use mathlib.Core.Bool.{Bool, true, false, not, _&&_, _||_, cond, and-false, or-true, true≢false}
+use mathlib.Core.Bool.{Bool, true, false, not, _&&_, _||_, cond, and-true, and-false, or-true, or-false, true≢false}
 use mathlib.Core.Logic.{_⊎_, inl, inr}
 use mathlib.Core.List.{List, [], _∷_}
 use lib.Dec.{eqb, ltb}
 use lib.ListN.{length, getD}
 use borrow.Author.Tests.{eqb-true, eqb-false, eq-eqb, ne-eqb, lt-ltb, le-ltb, ltb-true, ltb-false}
 use Rattle.meaning.specs.Name.{star, passes}
-use Rattle.sets.specs.Set.{member, maskOf}
-use Rattle.sets.specs.Set.Of.{member-maskOf, maskOf-agree}
+use Rattle.sets.specs.Set.{member, join, onlyIf, maskOf}
+use Rattle.sets.specs.Set.Laws.{member-onlyIf}
+use Rattle.sets.specs.Set.Of.{member-maskOf, is-maskOf, maskOf-agree, maskOf-join}
 use Rattle.plan.specs.Asked.{Asking, compared, passed, quick, nobody, testOf, starsOf, belongs, addedTo, bucketFrom, bucket, placeBy, asking}
 
 -- what a bucket says
@@ -77,6 +81,19 @@ module _ (m w s : ℕ) (some : 0 < m) where
 
   pub bucket-says : (T : List ℕ) (i : ℕ) → i < length T → belongs w s (getD T i 0) ≡ true → (bucket m w T s ≡ i) ⊎ (bucket m w T s ≡ m)
   bucket-says T i l h = subst (λ k. (bucket m w T s ≡ k) ⊎ (bucket m w T s ≡ m)) (zero-add i) (says-from T 0 i l h)
+
+  most-from : (ns : List ℕ) (t : ℕ) → t + length ns ≤ m → bucketFrom m w s t ns ≤ m
+  unfolding bucketFrom
+  most-from [] t h = omega arith
+  most-from (n ∷ ns) t h = go (belongs w s n) (eqb (bucketFrom m w s (suc t) ns) 0) (most-from ns (suc t) (omega arith))
+    where
+      go : (a b : Bool) {later : ℕ} → later ≤ m → cond a (cond b t m) later ≤ m
+      go true true l = omega arith
+      go true false l = omega arith
+      go false b l = l
+
+  pub bucket-most : (T : List ℕ) → length T ≤ m → bucket m w T s ≤ m
+  bucket-most T h = most-from T 0 (omega arith)
 
 -- a name that is none passes as a star's test alone
 passed-star : (t n : ℕ) → t ≡ star → passes t n ≡ true
@@ -172,3 +189,57 @@ module _ (A : Asking) (x : ℕ) (small : x < nobody) where
   pub quick-tests : quick A x ≡ maskOf (A .size) (λ t. passes (testOf A t) x)
   unfolding quick
   quick-tests = maskOf-agree (A .size) _ _ (λ t l. passed-test t)
+
+-- what is told, by how many steps are compared
+
+module _ (A : Asking) (x : ℕ) where
+  abbrev stars : ℕ
+  stars = maskOf (A .size) (member (A .stars))
+
+  abbrev asks : ℕ → Bool
+  asks t = eqb (A .name t) x
+
+  pub quick-none : x ≡ star → quick A x ≡ stars
+  unfolding quick passed
+  quick-none e =
+      maskOf-agree (A .size) _ _
+      (λ t l. ap (λ b. member (A .stars) t || (not b && (asks t && compared A x t))) (eq-eqb x star e) ∙ or-false (member (A .stars) t))
+
+  -- with the steps that pass C compared
+  told : (C : ℕ → Bool) → (x ≡ star → ⊥) → ((t : ℕ) → t < A .size → compared A x t ≡ C t) →
+      quick A x ≡ join stars (maskOf (A .size) (λ t. asks t && C t))
+  unfolding quick passed
+  told C f e =
+      maskOf-agree (A .size) _ _ (λ t l. ap₂ (λ a b. member (A .stars) t || (not a && (asks t && b))) (ne-eqb x star f) (e t l))
+      ∙ maskOf-join (A .size) (member (A .stars)) (λ t. asks t && C t)
+
+  pub quick-all : (x ≡ star → ⊥) → A .size ≤ A .place x → quick A x ≡ join stars (maskOf (A .size) asks)
+  unfolding compared
+  quick-all f h =
+      told (λ t. true) f (λ t l. ap (λ b. eqb (A .place x) t || not b) (le-ltb (A .place x) (A .size) h) ∙ or-true (eqb (A .place x) t))
+      ∙ ap (join stars) (maskOf-agree (A .size) _ asks (λ t l. and-true (asks t)))
+
+  pub quick-one : (x ≡ star → ⊥) → A .place x < A .size → quick A x ≡ join stars (onlyIf (asks (A .place x)) (A .place x))
+  unfolding compared
+  quick-one f h =
+      told (eqb (A .place x)) f (λ t l. ap (λ b. eqb (A .place x) t || not b) (lt-ltb (A .place x) (A .size) h) ∙ or-false (eqb (A .place x) t))
+      ∙ ap (join stars) (sym (is-maskOf (A .size) _ _ (λ t. member-onlyIf (asks (A .place x)) (A .place x) t ∙ one t (eqb (A .place x) t) refl)))
+    where
+      one : (t : ℕ) (b : Bool) → eqb (A .place x) t ≡ b → (asks (A .place x) && b) ≡ (ltb t (A .size) && (asks t && b))
+      one t true e =
+          let same : A .place x ≡ t = eqb-true (A .place x) t e in
+          ap (λ p. asks p && true) same
+          ∙ sym (ap (λ b. b && (asks t && true)) (ap (λ p. ltb p (A .size)) (sym same) ∙ lt-ltb (A .place x) (A .size) h))
+      one t false e = and-false (asks (A .place x)) ∙ sym (ap (λ b. ltb t (A .size) && b) (and-false (asks t)) ∙ and-false (ltb t (A .size)))
+
+pub test-same :
+    (A B : Asking) (t : ℕ) → A .size ≡ B .size → A .stars ≡ B .stars → A .name t ≡ B .name t → A .place (B .name t) ≡ B .place (B .name t) →
+    testOf A t ≡ testOf B t
+unfolding testOf compared
+test-same A B t es em en ep =
+    ap₂
+    (λ m n. cond (member m t) star (cond (not (eqb n star) && (eqb (A .place n) t || not (ltb (A .place n) (A .size)))) n nobody))
+    em en
+    ∙ ap₂
+    (λ p s. cond (member (B .stars) t) star (cond (not (eqb (B .name t) star) && (eqb p t || not (ltb p s))) (B .name t) nobody))
+    ep es

@@ -5,13 +5,14 @@ use Prim.Native.Nat.{_-_, _≤_}
 use mathlib.Core.Path.{_≡_, refl}
 use lib.ListN.{length}
 use Rattle.words.specs.Words.{words}
+use Rattle.plan_bytes.specs.Kept.{slot, slots}
 use Rattle.plan_bytes.specs.Kept.Laws.{room-is, Written, written-none, written-as, written-all}
 use Rattle.plan_bytes.proofs.put_hung.Statement.{statement}
 use Rattle.plan_bytes.proofs.put_hung.Tie as tie
 
 abbrev Inv-loop : tie.InvT-loop
 Inv-loop hung bytes₀ i₀ bytes i =
-    (i ≤ 32) × ((length bytes ≡ length bytes₀) × Written 40 hung i (words bytes₀) (words bytes))
+    (i ≤ 32) × ((length bytes ≡ length bytes₀) × Written 40 (slot hung) i (words bytes₀) (words bytes))
 
 abbrev μ-loop : tie.MeasureT-loop
 μ-loop hung bytes₀ i₀ bytes i = 32 - i
@@ -45,7 +46,8 @@ same-length : tie.Need-same-length Inv-loop μ-loop
 same-length c = search needs
 
 returns : tie.Need-returns Inv-loop μ-loop
-returns c = written-all 40 _ _ _ _ (c .before .loop .inv .0) (omega arith) (c .before .loop .inv .1 .1)
+unfolding slots
+returns c = written-all 40 _ 32 _ _ _ (c .before .loop .inv .0) (omega arith) (c .before .loop .inv .1 .1)
 
 pub put-hung-spec : {M : Type 1} → statement M
 put-hung-spec =

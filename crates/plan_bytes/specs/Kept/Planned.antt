@@ -1,6 +1,6 @@
 -- What a session keeps of its query's bytes is the plan of the query.
 --
---   Small v           v is a number of 4 bytes
+--   Small v           v is a number of 4 bytes;  Short v: of 2 bytes
 --   kept-planned      the plan that is made of bytes, packed and read again, is that of the steps that are planned
 --   kept-admitted     and so, of an admitted query's bytes, that of the query that they mean
 --
@@ -26,22 +26,21 @@ use Rattle.plan.specs.Places.Laws.{order-length, every-order}
 use Rattle.plan.specs.Places.Plan.{first-order}
 use Rattle.plan.specs.Plan.{Plan, plan}
 use Rattle.plan.specs.Plan.Laws.{plan-size}
-use Rattle.plan.specs.Planned.{sizeOf, planned, zeros, filled, columns, planOf}
+use Rattle.plan.specs.Asked.{starsOf}
+use Rattle.plan.specs.Planned.{sizeOf, planned, zeros, filled, bucketCount, columns, planOf}
 use Rattle.plan.specs.Planned.Laws.{planned-all, plan-hung}
 use Rattle.words.specs.Words.{words, bytesOf}
 use Rattle.words.specs.Rows.{rows}
-use Rattle.plan_bytes.specs.Kept.{planRoom, keptIn, slots, packedOver, packed}
-use Rattle.plan_bytes.specs.Kept.Packed.{kept-packed}
+use Rattle.plan_bytes.specs.Kept.{planRoom, keptIn, pair, four, slots, pairs, fours, packedOver, packed}
+use Rattle.plan_bytes.specs.Kept.Packed.{buckets-small, kept-packed}
 
 abbrev Small : ℕ → Type 0
 Small v = v < 4294967296
 
--- lists of small numbers
+abbrev Short : ℕ → Type 0
+Short v = v < 65536
 
-at-small : {l : List ℕ} → Every Small l → (i : ℕ) → Small (getD l i 0)
-at-small eNil i = omega arith
-at-small (eCons h t) zero = h
-at-small (eCons h t) (suc i) = at-small t i
+-- lists of small numbers
 
 set-small : {l : List ℕ} {v : ℕ} → Every Small l → Small v → (i : ℕ) → Every Small (set l i v)
 set-small eNil k i = eNil
@@ -52,52 +51,84 @@ sets-small : {l vs : List ℕ} → Every Small l → Every Small vs → (i : ℕ
 sets-small h eNil i = h
 sets-small h (eCons k t) i = sets-small (set-small h k i) t (suc i)
 
-rows-small : (n : ℕ) (g : ℕ → ℕ) → ((i : ℕ) → Small (g i)) → Every Small (rows n g)
+rows-small : (n : ℕ) (g : ℕ → ℕ) → ((i : ℕ) → i < n → Small (g i)) → Every Small (rows n g)
 unfolding rows
 rows-small zero g h = eNil
-rows-small (suc n) g h = eCons (h zero) (rows-small n (λ i. g (suc i)) (λ i. h (suc i)))
+rows-small (suc n) g h = eCons (h zero (omega arith)) (rows-small n (λ i. g (suc i)) (λ i l. h (suc i) (omega arith)))
+
+-- lists of numbers under b
+
+module _ (b : ℕ) (some : 0 < b) where
+  abbrev Under : ℕ → Type 0
+  Under v = v < b
+
+  at-under : {l : List ℕ} → Every Under l → (i : ℕ) → Under (getD l i 0)
+  at-under eNil i = some
+  at-under (eCons h t) zero = h
+  at-under (eCons h t) (suc i) = at-under t i
+
+  zeros-under : (n : ℕ) → Every Under (zeros n)
+  zeros-under zero = eNil
+  zeros-under (suc n) = eCons {x = 0} some (zeros-under n)
+
+  filled-under : {xs : List ℕ} → Every Under xs → Every Under (filled xs)
+  filled-under {xs} h = every-append h (zeros-under (mostSteps - length xs))
+
+  map-under : {f : Numbered → ℕ} {ps : List Numbered} → Every (λ p. Under (f p)) ps → Every Under (map f ps)
+  map-under eNil = eNil
+  map-under (eCons h t) = eCons h (map-under t)
 
 slots-small : {l : List ℕ} → Every Small l → Every Small (slots l)
 unfolding slots
-slots-small {l} h = rows-small mostSteps (λ t. getD l t 0) (at-small h)
+slots-small {l} h = rows-small mostSteps (λ t. getD l t 0) (λ t k. at-under 4294967296 (omega arith) h t)
 
-map-small : {f : Numbered → ℕ} {ps : List Numbered} → Every (λ p. Small (f p)) ps → Every Small (map f ps)
-map-small eNil = eNil
-map-small (eCons h t) = eCons h (map-small t)
+pairs-small : {l : List ℕ} → Every Short l → Every Small (pairs l)
+unfolding pairs
+pairs-small {l} h =
+    rows-small 16 (pair l)
+    (λ i k. omega (arith, at-under 65536 (omega arith) h (2 * i), at-under 65536 (omega arith) h (2 * i + 1)))
 
-zeros-small : (n : ℕ) → Every Small (zeros n)
-zeros-small zero = eNil
-zeros-small (suc n) = eCons {x = 0} (omega arith) (zeros-small n)
-
-filled-small : {xs : List ℕ} → Every Small xs → Every Small (filled xs)
-filled-small {xs} h = every-append h (zeros-small (mostSteps - length xs))
+fours-small : (l : List ℕ) → ((s : ℕ) → s < bucketCount → getD l s 0 < 256) → Every Small (fours l)
+unfolding fours
+fours-small l h =
+    rows-small 16 (four l)
+    (λ i k. omega (arith, h (4 * i) (omega arith), h (4 * i + 1) (omega arith), h (4 * i + 2) (omega arith), h (4 * i + 3) (omega arith)))
 
 blank-small : Every Small (words (replicate planRoom 0))
 unfolding words planRoom
-blank-small = zeros-small 72
+blank-small = zeros-under 4294967296 (omega arith) 72
 
 -- the numbers of a plan
 
 record SmallPlan (P : Plan) : Type 0 where
-  pub tests : Every Small (P .tests)
+  pub tests : Every Short (P .tests)
   pub hung : Every Small (P .hung)
   pub deep : Small (P .deep)
   pub main : Small (P .main)
   pub plain : Small (P .plain)
   pub first : Small (P .first)
 
-packed-small : (P : Plan) → SmallPlan P → Every Small (packed (columns P))
+names-short : (P : Plan) → SmallPlan P → Every Short (columns P .names)
+unfolding columns
+names-short P s = filled-under 65536 (omega arith) (s .tests)
+
+packed-small : (P : Plan) → length (P .tests) ≤ mostSteps → SmallPlan P → Every Small (packed (columns P))
 unfolding packed packedOver columns
-packed-small P s =
+packed-small P few s =
     sets-small
-    (sets-small (sets-small blank-small masks 0) (slots-small (filled-small (s .tests))) 8)
-    (slots-small (filled-small (s .hung))) 40
+    (sets-small
+    (sets-small (sets-small blank-small masks 0) (pairs-small (names-short P s)) 8)
+    (fours-small (columns P .buckets) (buckets-small P few)) 24)
+    (slots-small (filled-under 4294967296 (omega arith) (s .hung))) 40
   where
     size : Small (sizeOf (length (P .tests)))
     size = omega (arith, min-le-right (length (P .tests)) mostSteps)
 
-    masks : Every Small (sizeOf (length (P .tests)) ∷ P .deep ∷ P .main ∷ P .plain ∷ P .first ∷ [])
-    masks = eCons size (eCons (s .deep) (eCons (s .main) (eCons (s .plain) (eCons (s .first) eNil))))
+    stars : Small (starsOf (P .tests))
+    stars = lt-of-lt-of-le (maskOf-under (length (P .tests)) _) (pow-mono {j = 32} few)
+
+    masks : Every Small (sizeOf (length (P .tests)) ∷ P .deep ∷ P .main ∷ P .plain ∷ P .first ∷ starsOf (P .tests) ∷ [])
+    masks = eCons size (eCons (s .deep) (eCons (s .main) (eCons (s .plain) (eCons (s .first) (eCons stars eNil)))))
 
 -- a query of 32 steps at most
 
@@ -107,12 +138,12 @@ module _ (Q : Query) (few : length Q ≤ mostSteps) where
   mask-small A =
       lt-of-lt-of-le (maskOf-under (length (order Q)) _) (pow-mono {j = 32} (subst (λ n. n ≤ 32) (sym (order-length Q)) few))
 
-  plan-small : Every (λ p. Small (p .step .name)) (numbered Q 1) → SmallPlan (plan Q)
+  plan-small : Every (λ p. Short (p .step .name)) (numbered Q 1) → SmallPlan (plan Q)
   unfolding plan
   plan-small names =
       record {
-        tests = map-small (every-order Q names);
-        hung = map-small (every-all (λ p. mask-small _) (order Q));
+        tests = map-under 65536 (omega arith) (every-order Q names);
+        hung = map-under 4294967296 (omega arith) (every-all (λ p. mask-small _) (order Q));
         deep = mask-small _;
         main = mask-small _;
         plain = mask-small _;
@@ -125,24 +156,31 @@ step-bytes : (q : List ℕ) → Bytes q → (s k : ℕ) → k < stepBytes → ge
 step-bytes q bytes s k h =
     subst (λ n. n < 256) (sym (getD-take stepBytes (drop (stepBytes * s) q) k 0 h ∙ getD-drop (stepBytes * s) q k 0)) (bytes (stepBytes * s + k))
 
-name-small : (q : List ℕ) → Bytes q → (s : ℕ) → Small (decodeStep (stepOf q s) .name)
+name-short : (q : List ℕ) → Bytes q → (s : ℕ) → Short (decodeStep (stepOf q s) .name)
 unfolding decodeStep
-name-small q bytes s = omega (arith, step-bytes q bytes s 4 (omega arith), step-bytes q bytes s 5 (omega arith))
+name-short q bytes s = omega (arith, step-bytes q bytes s 4 (omega arith), step-bytes q bytes s 5 (omega arith))
 
-names-small : (q : List ℕ) → Bytes q → (n s i : ℕ) → Every (λ p. Small (p .step .name)) (numbered (decodeFrom q n s) i)
+decoded-short : (q : List ℕ) → Bytes q → (n s i : ℕ) → Every (λ p. Short (p .step .name)) (numbered (decodeFrom q n s) i)
 unfolding decodeFrom numbered
-names-small q bytes zero s i = eNil
-names-small q bytes (suc n) s i = eCons (name-small q bytes s) (names-small q bytes n (suc s) (suc i))
+decoded-short q bytes zero s i = eNil
+decoded-short q bytes (suc n) s i = eCons (name-short q bytes s) (decoded-short q bytes n (suc s) (suc i))
 
 module _ (q : List ℕ) (bytes : Bytes q) where
   few : length (planned q) ≤ mostSteps
   few = omega (arith, from-length q (sizeOf (steps q)) 0, min-le-right (steps q) mostSteps)
 
+  steps-few : length (plan (planned q) .tests) ≤ mostSteps
+  steps-few = subst (λ n. n ≤ 32) (sym (plan-size (planned q))) few
+
+  small : SmallPlan (plan (planned q))
+  small = plan-small (planned q) few (decoded-short q bytes (sizeOf (steps q)) 0 1)
+
   pub kept-planned : keptIn (bytesOf (packed (planOf q))) ≡ plan (planned q)
   unfolding planOf
   kept-planned =
-      kept-packed (plan (planned q)) (subst (λ n. n ≤ 32) (sym (plan-size (planned q))) few) (plan-hung (planned q) ∙ sym (plan-size (planned q)))
-      (at-small (packed-small (plan (planned q)) (plan-small (planned q) few (names-small q bytes (sizeOf (steps q)) 0 1))))
+      kept-packed (plan (planned q)) steps-few (plan-hung (planned q) ∙ sym (plan-size (planned q)))
+      (at-under 65536 (omega arith) (names-short (plan (planned q)) small))
+      (at-under 4294967296 (omega arith) (packed-small (plan (planned q)) steps-few small))
 
   pub kept-admitted : answerTo q ≡ admitted → keptIn (bytesOf (packed (planOf q))) ≡ plan (decode q)
   kept-admitted given = kept-planned ∙ ap plan (planned-all q (meant q bytes given .most))

@@ -5,6 +5,8 @@
 --   words-length    how many numbers there are;  bytes-length: how many bytes
 --   bytes-words     the bytes of the numbers of bytes are these, where their length is a multiple of 4
 --   words-bytes     the numbers of the bytes of numbers under 2 ^ 32 are these
+--   Spelt bs j v    the bytes of bs from j on are those of the number v;  bytes-spelt: those of a number among the bytes of numbers
+--   first-byte, second-byte, third-byte, fourth-byte     each byte of the number of 4 bytes
 --   bytes-same      so bytes of one length with the same numbers are the same
 --
 -- Assumes nothing.
@@ -85,16 +87,16 @@ words-length (suc n) (a ∷ b ∷ c ∷ []) l = absurd (omega arith)
 words-length (suc n) (a ∷ b ∷ c ∷ d ∷ bs) l = ap suc (words-length n bs (omega arith))
 
 -- each byte of a number
-first-byte : (a b c d : ℕ) → a < 256 → word a b c d % 256 ≡ a
+pub first-byte : (a b c d : ℕ) → a < 256 → word a b c d % 256 ≡ a
 first-byte a b c d h = omega arith
 
-second-byte : (a b c d : ℕ) → a < 256 → b < 256 → word a b c d / 256 % 256 ≡ b
+pub second-byte : (a b c d : ℕ) → a < 256 → b < 256 → word a b c d / 256 % 256 ≡ b
 second-byte a b c d ha hb = omega arith
 
-third-byte : (a b c d : ℕ) → a < 256 → b < 256 → c < 256 → word a b c d / 256 / 256 % 256 ≡ c
+pub third-byte : (a b c d : ℕ) → a < 256 → b < 256 → c < 256 → word a b c d / 256 / 256 % 256 ≡ c
 third-byte a b c d ha hb hc = omega arith
 
-fourth-byte : (a b c d : ℕ) → a < 256 → b < 256 → c < 256 → d < 256 → word a b c d / 256 / 256 / 256 % 256 ≡ d
+pub fourth-byte : (a b c d : ℕ) → a < 256 → b < 256 → c < 256 → d < 256 → word a b c d / 256 / 256 / 256 % 256 ≡ d
 fourth-byte a b c d ha hb hc hd = omega arith
 
 pub bytes-words : (n : ℕ) (bs : List ℕ) → length bs ≡ 4 * n → Bytes bs → bytesOf (words bs) ≡ bs
@@ -127,3 +129,22 @@ bytes-length (v ∷ ws) = omega (arith, bytes-length ws)
 pub bytes-same :
     (n : ℕ) (bs cs : List ℕ) → length bs ≡ 4 * n → length cs ≡ 4 * n → Bytes bs → Bytes cs → words bs ≡ words cs → bs ≡ cs
 bytes-same n bs cs lb lc hb hc e = sym (bytes-words n bs lb hb) ∙ ap bytesOf e ∙ bytes-words n cs lc hc
+
+pub record Spelt (bs : List ℕ) (j v : ℕ) : Type 0 where
+  pub first : getD bs j 0 ≡ v % 256
+  pub second : getD bs (suc j) 0 ≡ v / 256 % 256
+  pub third : getD bs (suc (suc j)) 0 ≡ v / 256 / 256 % 256
+  pub fourth : getD bs (suc (suc (suc j))) 0 ≡ v / 256 / 256 / 256 % 256
+
+pub bytes-spelt : (ws : List ℕ) (i j : ℕ) → j ≡ 4 * i → Spelt (bytesOf ws) j (getD ws i 0)
+unfolding bytesOf
+bytes-spelt [] i j e = record { first = refl; second = refl; third = refl; fourth = refl }
+bytes-spelt (v ∷ ws) zero zero e = record { first = refl; second = refl; third = refl; fourth = refl }
+bytes-spelt (v ∷ ws) zero (suc j) e = absurd (omega arith)
+bytes-spelt (v ∷ ws) (suc i) (suc (suc (suc (suc j)))) e =
+    let rest : Spelt (bytesOf ws) j (getD ws i 0) = bytes-spelt ws i j (omega arith) in
+    record { first = rest .first; second = rest .second; third = rest .third; fourth = rest .fourth }
+bytes-spelt (v ∷ ws) (suc i) zero e = absurd (omega arith)
+bytes-spelt (v ∷ ws) (suc i) (suc zero) e = absurd (omega arith)
+bytes-spelt (v ∷ ws) (suc i) (suc (suc zero)) e = absurd (omega arith)
+bytes-spelt (v ∷ ws) (suc i) (suc (suc (suc zero))) e = absurd (omega arith)
