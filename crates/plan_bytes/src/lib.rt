@@ -120,7 +120,12 @@ fn put_buckets(buckets: &[u8; 64], bytes: &mut [u8])
     let mut i: usize = 0;
     while i < 16 {
         let at = 4 * i;
-        let four = words::word(buckets[at], buckets[at + 1], buckets[at + 2], buckets[at + 3]);
+        let four = words::word(
+            buckets[at],
+            buckets[at + 1],
+            buckets[at + 2],
+            buckets[at + 3],
+        );
         words::put(bytes, 24 + i, four);
         i += 1;
     }

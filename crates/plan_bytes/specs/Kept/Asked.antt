@@ -18,12 +18,13 @@ use borrow.Author.Tests.{lt-ltb, le-ltb}
 use Rattle.meaning.specs.Name.{star, passes}
 use Rattle.sets.specs.Set.{member, join, onlyIf, maskOf}
 use Rattle.sets.specs.Set.Of.{maskOf-agree}
-use Rattle.plan.specs.Asked.{Asking, quick, nobody, testOf}
+use Rattle.plan.specs.Asked.{Asking, quick, nobody, testOf, placeBy}
 use Rattle.plan.specs.Asked.Laws.{quick-tests, quick-none, quick-one, quick-all}
 use Rattle.plan.specs.Plan.{named}
 use Rattle.plan.specs.Planned.{bucketCount}
 use Rattle.words.specs.Rows.{rows-length, rows-at}
 use Rattle.plan_bytes.specs.Kept.{fewSteps, sizeIn, bucketIn, askingIn, keptIn}
+use Rattle.plan_bytes.specs.Kept.Laws.{asked-size}
 
 module _ (bs : List ℕ) (x : ℕ) (small : x < nobody) where
   abbrev A : Asking
@@ -36,30 +37,38 @@ module _ (bs : List ℕ) (x : ℕ) (small : x < nobody) where
       ∙ maskOf-agree (sizeIn bs) _ _ (λ t l. ap (λ n. passes n x) (sym (rows-at (sizeIn bs) (testOf A) 0 t l)))
       ∙ ap (λ n. maskOf n (λ t. passes (getD (keptIn bs .tests) t 0) x)) (sym (rows-length (sizeIn bs) (testOf A)))
 
-  abbrev stars : ℕ
-  stars = maskOf (A .size) (member (A .stars))
-
   abbrev asks : ℕ → Bool
   asks t = eqb (A .name t) x
 
-  pub told-none : x ≡ star → stars ≡ named (keptIn bs) x
-  told-none e = sym (quick-none A x e) ∙ named-quick
+  -- by what is read: how many steps there are, the stars, and what the bucket of the name says
+  module _ (size stars said : ℕ) (es : size ≡ length (keptIn bs .tests)) (em : stars ≡ maskOf (A .size) (member (A .stars)))
+      (eb : said ≡ bucketIn bs (x % bucketCount)) where
+    size-is : size ≡ A .size
+    size-is = es ∙ asked-size bs
 
-  pub told-few : (x ≡ star → ⊥) → A .size < fewSteps → join stars (maskOf (A .size) asks) ≡ named (keptIn bs) x
-  told-few f h = sym (quick-all A x f (omega (arith, place))) ∙ named-quick
-    where
-      place : A .place x ≡ A .size
-      place = unfold askingIn in ap (λ b. cond b (sizeIn bs) (bucketIn bs (x % bucketCount))) (lt-ltb (sizeIn bs) fewSteps h)
-
-  module _ (f : x ≡ star → ⊥) (many : fewSteps ≤ A .size) where
-    place : A .place x ≡ bucketIn bs (x % bucketCount)
+    place-is : A .place x ≡ placeBy fewSteps size said
     unfolding askingIn
-    place = ap (λ b. cond b (sizeIn bs) (bucketIn bs (x % bucketCount))) (le-ltb (sizeIn bs) fewSteps many)
+    place-is = ap₂ (placeBy fewSteps) (sym size-is) (sym eb)
 
-    pub told-one :
-        bucketIn bs (x % bucketCount) < A .size →
-        join stars (onlyIf (asks (bucketIn bs (x % bucketCount))) (bucketIn bs (x % bucketCount))) ≡ named (keptIn bs) x
-    told-one h = ap (λ p. join stars (onlyIf (asks p) p)) (sym place) ∙ sym (quick-one A x f (omega (arith, place))) ∙ named-quick
+    -- every step is compared
+    all-told : (set : ℕ) → (x ≡ star → ⊥) → size ≤ placeBy fewSteps size said → set ≡ maskOf size asks → join stars set ≡ named (keptIn bs) x
+    all-told set f h e =
+        ap₂ join em (e ∙ ap (λ n. maskOf n asks) size-is) ∙ sym (quick-all A x f (omega (arith, size-is, place-is))) ∙ named-quick
 
-    pub told-all : A .size ≤ bucketIn bs (x % bucketCount) → join stars (maskOf (A .size) asks) ≡ named (keptIn bs) x
-    told-all h = sym (quick-all A x f (omega (arith, place))) ∙ named-quick
+    pub told-none : x ≡ star → stars ≡ named (keptIn bs) x
+    told-none e = em ∙ sym (quick-none A x e) ∙ named-quick
+
+    pub told-few : (set : ℕ) → (x ≡ star → ⊥) → size < fewSteps → set ≡ maskOf size asks → join stars set ≡ named (keptIn bs) x
+    told-few set f h = all-told set f (omega (arith, ap (λ b. cond b size said) (lt-ltb size fewSteps h)))
+
+    module _ (set : ℕ) (f : x ≡ star → ⊥) (many : fewSteps ≤ size) where
+      by-bucket : placeBy fewSteps size said ≡ said
+      by-bucket = ap (λ b. cond b size said) (le-ltb size fewSteps many)
+
+      pub told-one : said < size → set ≡ onlyIf (asks said) said → join stars set ≡ named (keptIn bs) x
+      told-one h e =
+          let here : said ≡ A .place x = sym by-bucket ∙ sym place-is in
+          ap₂ join em (e ∙ ap (λ p. onlyIf (asks p) p) here) ∙ sym (quick-one A x f (omega (arith, here, size-is))) ∙ named-quick
+
+      pub told-all : size ≤ said → set ≡ maskOf size asks → join stars set ≡ named (keptIn bs) x
+      told-all h = all-told set f (omega (arith, by-bucket))

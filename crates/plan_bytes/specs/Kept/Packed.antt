@@ -22,7 +22,21 @@ use Rattle.words.specs.Words.{words, bytesOf}
 use Rattle.words.specs.Words.Laws.{words-length, words-bytes, Spelt, bytes-spelt, first-byte, second-byte, third-byte, fourth-byte}
 use Rattle.words.specs.Rows.{rows, rows-length, rows-at, rows-same, is-rows}
 use Rattle.plan_bytes.specs.Kept.{
-  planRoom, fewSteps, sizeIn, nameIn, bucketIn, askingIn, keptIn, slot, pair, four, slots, pairs, fours, packedOver, packed,
+  planRoom,
+  fewSteps,
+  sizeIn,
+  nameIn,
+  bucketIn,
+  askingIn,
+  keptIn,
+  slot,
+  pair,
+  four,
+  slots,
+  pairs,
+  fours,
+  packedOver,
+  packed,
 }
 
 -- a run of numbers, read
