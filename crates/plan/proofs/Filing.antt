@@ -6,20 +6,19 @@
 --   known-none, known-step, known-all      before the last step; one step more; after the first
 --
 -- Assumes nothing.
-use Prim.Native.Nat.{ℕ, zero, suc, _%_, _≤_, _<_}
+use Prim.Native.Nat.{ℕ, suc, _%_, _≤_, _<_}
 use native.Mathlib.Nat.{mod-lt}
-use native.Mathlib.Decide.{decLt}
 use native.Mathlib.Omega.{arith}
 use mathlib.Core.Path.{_≡_, refl, sym, ap, ap₂, _∙_}
 use mathlib.Core.Bool.{Bool, true, false, not, _&&_, cond}
-use mathlib.Core.List.{List, [], _∷_}
+use mathlib.Core.List.{List, _∷_}
 use lib.Dec.{eqb}
 use lib.ListN.{length, getD, set, take, drop, length-set, drop-of-length-le}
 use lib.Seq.{getD-set-same, getD-set-other, getD-take, drop-cons, length-take-le}
 use borrow.Author.Tests.{eqb-true, eqb-false, eq-eqb, ne-eqb}
 use Rattle.meaning.specs.Name.{star}
 use Rattle.sets.specs.Table.{tableOf, length-tableOf, getD-tableOf, is-tableOf}
-use Rattle.plan.specs.Asked.{belongs, addedTo, bucketFrom, bucket, filed}
+use Rattle.plan.specs.Asked.{addedTo, bucketFrom, bucket, filed}
 use Rattle.plan.specs.Planned.{bucketCount, severalSteps, zeros}
 
 pub added-first : (m t later : ℕ) → later ≡ 0 → t ≡ addedTo m t later

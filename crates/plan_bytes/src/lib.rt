@@ -68,13 +68,20 @@ fn all_of(size: usize) -> u32
     ((1u64 << size) - 1) as u32
 }
 
+fn byte(kept: &[u8], at: usize) -> u8
+    requires { ⌜ at < length (now kept) ⌝ }
+    ensures { λ r. ⌜ r ≡ getD (now (kept .entry)) at 0 ⌝ }
+{
+    kept[at]
+}
+
 // The name that a step asks for, if it does not ask for every name.
 pub fn name(kept: &[u8], place: usize) -> u32
     requires { ⌜ (length (now kept) ≡ planRoom) × (place < 32) ⌝ }
     ensures { λ r. ⌜ r ≡ askingIn (now (kept .entry)) .name place ⌝ }
 {
     let at = 32 + 2 * place;
-    kept[at] as u32 + 256 * (kept[at + 1] as u32)
+    byte(kept, at) as u32 + 256 * (byte(kept, at + 1) as u32)
 }
 
 // What the bucket of a name says.
@@ -82,7 +89,7 @@ pub fn bucket(kept: &[u8], x: u32) -> usize
     requires { ⌜ length (now kept) ≡ planRoom ⌝ }
     ensures { λ r. ⌜ r ≡ bucketIn (now (kept .entry)) (x % bucketCount) ⌝ }
 {
-    kept[96 + (x % 64) as usize] as usize
+    byte(kept, 96 + (x % 64) as usize) as usize
 }
 
 // The predicate steps that hang on a step.

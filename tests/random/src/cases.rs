@@ -3,7 +3,7 @@
 use crate::chance::Chance;
 use crate::lending::lending;
 use crate::queries::{any, document, guided};
-use crate::shapes::{bytes, long, names, nest, tree};
+use crate::shapes::{bytes, long, mixed_names, names, nest, tree};
 use crate::waiting;
 use second::query::{write, Axis, Step};
 use second::records::Event;
@@ -129,14 +129,14 @@ fn query_for(chance: &mut Chance, events: &[Event], names: &[u16], steps: usize)
 }
 
 fn small(chance: &mut Chance) -> Case {
-    let names = names(chance);
+    let names = mixed_names(chance);
     let events = tree(chance, &names, 14);
     let steps = chance.between(1, 7);
     Case::of(Kind::Small, &query_for(chance, &events, &names, steps), &events)
 }
 
 fn wide(chance: &mut Chance) -> Case {
-    let names = names(chance);
+    let names = mixed_names(chance);
     let events = tree(chance, &names, 90);
     let steps = if chance.percent(20) { MOST_STEPS } else { chance.between(4, MOST_STEPS) };
     Case::of(Kind::Wide, &query_for(chance, &events, &names, steps), &events)
@@ -241,7 +241,7 @@ fn damage(chance: &mut Chance, records: &mut Vec<Vec<u8>>, place: usize) {
 fn damaged_query(chance: &mut Chance) -> Case {
     let case = base(chance);
     let mut query = case.seen().0.to_vec();
-    match chance.between(0, 15) {
+    match chance.between(0, 19) {
         0..=5 => change_byte(chance, &mut query),
         6 => {
             let steps = if chance.percent(50) { 1 } else { chance.between(2, 8) };

@@ -43,7 +43,7 @@ loop-again c =
     let here = c .before .before .before .before .loop in
     let args = c .before .before .before .before .before .args in
     let whole : length (args .t1) ≡ 32 = search needs in
-    (omega arith, c .before .file .ensures ∙ known-step (args .t1) (args .size) (here .left) (here .left - 1) (omega arith) (omega arith) (here .inv .0) (here .inv .1))
+    (omega arith, c .before .file .ensures ∙ known-step (args .t1) (args .size) (here .left) _ (omega arith) (omega arith) (here .inv .0) (here .inv .1))
 
 returns : tie.Need-returns Inv-loop μ-loop
 returns c = known-all _ _ (omega arith) (c .before .loop .inv .1)

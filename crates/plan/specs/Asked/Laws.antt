@@ -19,12 +19,12 @@ use mathlib.Core.Logic.{_⊎_, inl, inr}
 use mathlib.Core.List.{List, [], _∷_}
 use lib.Dec.{eqb, ltb}
 use lib.ListN.{length, getD}
-use borrow.Author.Tests.{eqb-true, eqb-false, eq-eqb, ne-eqb, lt-ltb, le-ltb, ltb-true, ltb-false}
+use borrow.Author.Tests.{eqb-true, eqb-false, eq-eqb, ne-eqb, lt-ltb, le-ltb}
 use Rattle.meaning.specs.Name.{star, passes}
 use Rattle.sets.specs.Set.{member, join, onlyIf, maskOf}
 use Rattle.sets.specs.Set.Laws.{member-onlyIf}
 use Rattle.sets.specs.Set.Of.{member-maskOf, is-maskOf, maskOf-agree, maskOf-join}
-use Rattle.plan.specs.Asked.{Asking, compared, passed, quick, nobody, testOf, starsOf, belongs, addedTo, bucketFrom, bucket, placeBy, asking}
+use Rattle.plan.specs.Asked.{Asking, compared, passed, quick, nobody, testOf, belongs, addedTo, bucketFrom, bucket, asking}
 
 -- what a bucket says
 

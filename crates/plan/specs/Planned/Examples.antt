@@ -129,5 +129,6 @@ rows =
     ∷ []
 
 pub rows-right : map (λ (r : PlanRow). planOf (r .bytes)) rows ≡ map (λ (r : PlanRow). r .made) rows
-unfolding maskOf at allStep hangs goesDeep mainIf mainPath start axisMeant decodeStep decodeFrom predicateIf predicates backPath order mask plan tableOf bucketFrom columns planOf
+unfolding maskOf at allStep hangs goesDeep mainIf mainPath start axisMeant decodeStep decodeFrom predicateIf predicates backPath order mask
+    plan tableOf bucketFrom columns planOf
 rows-right = refl

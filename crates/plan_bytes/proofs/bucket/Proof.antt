@@ -1,26 +1,24 @@
 -- `bucket` reads a byte. Assumes nothing.
-use Prim.Native.Nat.{_+_, _%_}
 use borrow.Author.Needs.{needs}
 use native.Mathlib.Omega.{arith}
 use Rattle.plan_bytes.specs.Kept.Laws.{room-is}
 use Rattle.plan_bytes.proofs.bucket.Statement.{statement}
 use Rattle.plan_bytes.proofs.bucket.Tie as tie
 
+cast-byte : tie.Need-cast-byte
+cast-byte c = search needs
+
+add-byte : tie.Need-add-byte
+add-byte c = search needs
+
+byte-requires : tie.Need-byte-requires
+byte-requires c κs = omega (arith, room-is)
+
 cast-result : tie.Need-cast-result
 cast-result c = search needs
 
-add-result : tie.Need-add-result
-add-result c = search needs
-
-shared-slice-read-result : tie.Need-shared-slice-read-result
-shared-slice-read-result c = omega (arith, room-is)
-
-cast-result-2 : tie.Need-cast-result-2
-cast-result-2 c = omega (arith, c .shared-slice-known .given (96 + c .before .args .x % 64) .fits)
-
 returns : tie.Need-returns
-returns c = search needs
+returns c = c .byte .ensures
 
 pub bucket-spec : {M : Type 1} → statement M
-bucket-spec =
-    tie.close (tie.spec cast-result add-result shared-slice-read-result cast-result-2 returns)
+bucket-spec = tie.close (tie.spec cast-byte add-byte byte-requires cast-result returns)
