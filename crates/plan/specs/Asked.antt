@@ -9,6 +9,7 @@
 --   testOf A t         the test of step t that `quick` goes by: nobody for a step that is not compared with its own name
 --   starsOf T          the stars of the tests T
 --   belongs w s n      the test n asks for a name of bucket s of w
+--   addedTo m t l      what a bucket says with step t before the steps for which it says l
 --   bucketFrom m w s t T      what bucket s of w says for the tests T of the steps from t on: the only step that asks for a name of it, m for several,
 --                      0 for none
 --   bucket m w T s     the same for all steps

@@ -198,7 +198,7 @@ fn file(buckets: &mut [u8], name: u16, place: u8)
     if name == 0 {
         return;
     }
-    let at = (name % 64) as usize;
+    let at = name as usize % BUCKETS;
     buckets[at] = added_to(buckets[at], place);
 }
 

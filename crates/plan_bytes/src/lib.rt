@@ -89,7 +89,7 @@ pub fn bucket(kept: &[u8], x: u32) -> usize
     requires { ⌜ length (now kept) ≡ planRoom ⌝ }
     ensures { λ r. ⌜ r ≡ bucketIn (now (kept .entry)) (x % bucketCount) ⌝ }
 {
-    byte(kept, 96 + (x % 64) as usize) as usize
+    byte(kept, 96 + x as usize % plan::BUCKETS) as usize
 }
 
 // The predicate steps that hang on a step.

@@ -10,9 +10,6 @@ use Rattle.plan.proofs.file.Tie as tie
 returns : tie.Need-returns
 returns c = filed-star _ _ _ _ _ (c .if1 .taken)
 
-cast-at : tie.Need-cast-at
-cast-at c = search needs
-
 slice-read-added-to : tie.Need-slice-read-added-to
 slice-read-added-to c = search needs
 
@@ -35,7 +32,6 @@ file-spec =
     tie.close
     (tie.spec
     returns
-    cast-at
     slice-read-added-to
     added-to-requires
     slice-write-buckets

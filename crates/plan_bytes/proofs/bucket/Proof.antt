@@ -5,9 +5,6 @@ use Rattle.plan_bytes.specs.Kept.Laws.{room-is}
 use Rattle.plan_bytes.proofs.bucket.Statement.{statement}
 use Rattle.plan_bytes.proofs.bucket.Tie as tie
 
-cast-byte : tie.Need-cast-byte
-cast-byte c = search needs
-
 add-byte : tie.Need-add-byte
 add-byte c = search needs
 
@@ -21,4 +18,4 @@ returns : tie.Need-returns
 returns c = c .byte .ensures
 
 pub bucket-spec : {M : Type 1} → statement M
-bucket-spec = tie.close (tie.spec cast-byte add-byte byte-requires cast-result returns)
+bucket-spec = tie.close (tie.spec add-byte byte-requires cast-result returns)
