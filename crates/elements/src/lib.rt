@@ -13,7 +13,7 @@ ghost use Rattle.plan_bytes.specs.Kept.{planRoom, askingIn, keptIn};
 ghost use Rattle.elements.specs.Elements.{risenIn, refreshedFrom, pushedIn};
 
 // The step at this place alone if it asks for the name `x`, else none.
-fn asks(kept: &[u8], place: usize, x: u32) -> u32
+fn one_asking(kept: &[u8], place: usize, x: u32) -> u32
     requires { ⌜ (length (now kept) ≡ planRoom) × (place < 32) ⌝ }
     ensures { λ r. ⌜ r ≡ onlyIf (eqb (askingIn (now (kept .entry)) .name place) x) place ⌝ }
 {
@@ -22,14 +22,14 @@ fn asks(kept: &[u8], place: usize, x: u32) -> u32
 }
 
 // The steps that ask for the name `x`, each compared with it.
-fn asking(kept: &[u8], size: usize, x: u32) -> u32
+fn all_asking(kept: &[u8], size: usize, x: u32) -> u32
     requires { ⌜ (length (now kept) ≡ planRoom) × (size ≤ 32) ⌝ }
     ensures { λ r. ⌜ r ≡ maskOf size (λ t. eqb (askingIn (now (kept .entry)) .name t) x) ⌝ }
 {
     let mut set: u32 = 0;
     let mut place: usize = 0;
     while place < size {
-        set = set | asks(kept, place, x);
+        set = set | one_asking(kept, place, x);
         place += 1;
     }
     set
@@ -42,18 +42,18 @@ pub fn named(kept: &[u8], x: u32) -> u32
     ensures { λ r. ⌜ r ≡ named (keptIn (now (kept .entry))) x ⌝ }
 {
     let size = plan_bytes::size(kept);
-    let stars = plan_bytes::stars(kept);
+    let stars = plan_bytes::stars(kept, size);
     if x == 0 {
         return stars;
     }
     if size < plan_bytes::FEW {
-        return stars | asking(kept, size, x);
+        return stars | all_asking(kept, size, x);
     }
-    let place = plan_bytes::bucket(kept, x);
-    if place < size {
-        return stars | asks(kept, place, x);
+    let said = plan_bytes::said(kept, x);
+    if said < size {
+        return stars | one_asking(kept, said, x);
     }
-    stars | asking(kept, size, x)
+    stars | all_asking(kept, size, x)
 }
 
 // The steps of `pass` all of whose predicate steps are in `below`.

@@ -2,13 +2,13 @@
 --
 --   Bytes      the bytes of a step's record
 --   Filling    the loop that fills slots
---   Filing     the loop that files the steps into buckets
+--   Buckets    the loop that files the steps into buckets
 --   Laying     the loop that gives the steps their places
 --   Made       what the parts of a plan come to
 --
 -- Assumes nothing.
 pub mod Bytes
 pub mod Filling
-pub mod Filing
+pub mod Buckets
 pub mod Laying
 pub mod Made

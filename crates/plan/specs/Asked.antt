@@ -4,7 +4,7 @@
 --   Asking             what is kept for the name tests: how many steps there are, which are stars, the name that each other asks for, and for a name
 --                      the place of the step that is compared with it; a place past the steps stands for all of them
 --   compared A x t     step t is compared with the name x
---   passed A x t       the name x passes the test of step t, as far as it is compared;  quick A x: the steps whose test it passes so
+--   finds A x t        the name x finds step t: a star, or a step that it is compared with and that asks for it;  quick A x: the steps that it finds
 --   nobody             a test that no name of 4 bytes passes
 --   testOf A t         the test of step t that `quick` goes by: nobody for a step that is not compared with its own name
 --   starsOf T          the stars of the tests T
@@ -36,11 +36,11 @@ pub record Asking : Type 0 where
 unfoldable pub compared : Asking → ℕ → ℕ → Bool
 compared A x t = eqb (A .place x) t || not (ltb (A .place x) (A .size))
 
-unfoldable pub passed : Asking → ℕ → ℕ → Bool
-passed A x t = member (A .stars) t || (not (eqb x star) && (eqb (A .name t) x && compared A x t))
+unfoldable pub finds : Asking → ℕ → ℕ → Bool
+finds A x t = member (A .stars) t || (not (eqb x star) && (eqb (A .name t) x && compared A x t))
 
 unfoldable pub quick : Asking → ℕ → ℕ
-quick A x = maskOf (A .size) (passed A x)
+quick A x = maskOf (A .size) (finds A x)
 
 abbrev pub nobody : ℕ
 nobody = 4_294_967_296

@@ -1,4 +1,4 @@
-// The plan of a query: what is kept of it while a stream is read, as one bit for each of the 32 steps.
+// The plan of a query: what is kept of it while a stream is read, as one bit for each of the 32 steps; and for the name tests buckets of names.
 //
 // Each step has a place, which is its bit: first the main path from its last step to its first, then the predicate steps as they come in the
 // query. So the step after a main-path step is one place lower, and the last main-path step is at place 0.
@@ -19,7 +19,7 @@ use query::AxisByte;
 pub const BUCKETS: usize = 64;
 
 // What a bucket says where several steps ask for names of it: no place, as there are at most so many steps.
-pub const SEVERAL: u8 = 32;
+const SEVERAL: u8 = 32;
 
 pub struct Plan {
     // The name test of the step at each place; 0 past the last step, as in `hung`.

@@ -2,12 +2,13 @@
 --
 --   planRoom            how many bytes it takes
 --   fewSteps            of fewer steps a name is compared with all
+--   sizeIn bs           how many steps there are: 32 at most
 --   nameIn bs t         the name that step t asks for, in 2 bytes;  bucketIn bs s: what bucket s says, in one
 --   askingIn bs         what the bytes keep for the name tests
---   keptIn bs           the plan that bytes stand for: any bytes stand for one, of 32 steps at most
+--   keptIn bs           the plan that bytes stand for: any bytes stand for one. Its name tests are those by which its steps are found (testOf)
 --   setOf which P       one of its sets of steps
---   slots l             the first 32 of l, 0 past its end
---   pairs l, fours l    32 numbers of 2 bytes as 16 of 4;  64 of one byte as 16 of 4
+--   slots l             the first 32 of l, 0 past its end;  slot l t: number t of them
+--   pairs l, fours l    32 numbers of 2 bytes as 16 of 4;  64 of one byte as 16 of 4.  pair l i, four l i: number i of them
 --   packedOver p ws     the numbers ws with those of the plan p written over them;  packed p: over zeros
 --
 -- Assumes nothing. NOT here: that the plan of a query is read as it was packed (Kept.Packed, Kept.Planned).

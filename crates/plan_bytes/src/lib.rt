@@ -33,7 +33,7 @@ pub const FIRST: usize = 4;
 // The steps that ask for every name.
 const STARS: usize = 5;
 
-// Of fewer steps a name is compared with all: that takes no longer than to look into a bucket.
+// Of fewer steps a name is compared with all: for 1 step that is faster than to look into a bucket, and for 3 it is as fast.
 pub const FEW: usize = 4;
 
 // A set of steps.
@@ -52,12 +52,12 @@ pub fn size(kept: &[u8]) -> usize
     plan::size_of(words::get(kept, 0) as usize)
 }
 
-// The steps that ask for every name.
-pub fn stars(kept: &[u8]) -> u32
-    requires { ⌜ length (now kept) ≡ planRoom ⌝ }
+// The steps that ask for every name, of all `size` steps.
+pub fn stars(kept: &[u8], size: usize) -> u32
+    requires { ⌜ (length (now kept) ≡ planRoom) × (size ≡ length (keptIn (now kept) .tests)) ⌝ }
     ensures { λ r. ⌜ r ≡ maskOf (askingIn (now (kept .entry)) .size) (member (askingIn (now (kept .entry)) .stars)) ⌝ }
 {
-    words::get(kept, STARS) & all_of(size(kept))
+    words::get(kept, STARS) & all_of(size)
 }
 
 // The first `size` steps.
@@ -85,7 +85,7 @@ pub fn name(kept: &[u8], place: usize) -> u32
 }
 
 // What the bucket of a name says.
-pub fn bucket(kept: &[u8], x: u32) -> usize
+pub fn said(kept: &[u8], x: u32) -> usize
     requires { ⌜ length (now kept) ≡ planRoom ⌝ }
     ensures { λ r. ⌜ r ≡ bucketIn (now (kept .entry)) (x % bucketCount) ⌝ }
 {

@@ -15,37 +15,37 @@ stars-requires c κs = search needs
 returns : tie.Need-returns
 returns c = told-none _ _ (omega arith) _ _ _ (c .before .before .size .ensures .0) (c .before .stars .ensures) refl (c .if1 .taken)
 
-asking-requires : tie.Need-asking-requires
-asking-requires c κs = search needs
+all-asking-requires : tie.Need-all-asking-requires
+all-asking-requires c κs = search needs
 
 returns-2 : tie.Need-returns-2
 returns-2 c =
     let left = c .before .before in
     told-few _ _ (omega arith) _ _ _ (left .before .before .size .ensures .0) (left .before .stars .ensures) refl _ (left .if1 .left) (c .before .if2 .taken)
-    (c .asking .ensures)
+    (c .all-asking .ensures)
 
-bucket-requires : tie.Need-bucket-requires
-bucket-requires c κs = search needs
+said-requires : tie.Need-said-requires
+said-requires c κs = search needs
 
-asks-requires : tie.Need-asks-requires
-asks-requires c κs = search needs
+one-asking-requires : tie.Need-one-asking-requires
+one-asking-requires c κs = search needs
 
 returns-3 : tie.Need-returns-3
 returns-3 c =
-    let said = c .before .before in
-    let left = said .before .before in
-    told-one _ _ (omega arith) _ _ _ (left .before .before .size .ensures .0) (left .before .stars .ensures) (said .bucket .ensures) _ (left .if1 .left)
-    (said .before .if2 .left) (c .before .if3 .taken) (c .asks .ensures)
+    let at-said = c .before .before in
+    let left = at-said .before .before in
+    told-one _ _ (omega arith) _ _ _ (left .before .before .size .ensures .0) (left .before .stars .ensures) (at-said .said .ensures) _ (left .if1 .left)
+    (at-said .before .if2 .left) (c .before .if3 .taken) (c .one-asking .ensures)
 
-asking-requires-2 : tie.Need-asking-requires-2
-asking-requires-2 c κs = search needs
+all-asking-requires-2 : tie.Need-all-asking-requires-2
+all-asking-requires-2 c κs = search needs
 
 returns-4 : tie.Need-returns-4
 returns-4 c =
-    let said = c .before .before in
-    let left = said .before .before in
-    told-all _ _ (omega arith) _ _ _ (left .before .before .size .ensures .0) (left .before .stars .ensures) (said .bucket .ensures) _ (left .if1 .left)
-    (said .before .if2 .left) (c .before .if3 .left) (c .asking2 .ensures)
+    let at-said = c .before .before in
+    let left = at-said .before .before in
+    told-all _ _ (omega arith) _ _ _ (left .before .before .size .ensures .0) (left .before .stars .ensures) (at-said .said .ensures) _ (left .if1 .left)
+    (at-said .before .if2 .left) (c .before .if3 .left) (c .all-asking2 .ensures)
 
 pub named-spec : {M : Type 1} → statement M
 named-spec =
@@ -54,10 +54,10 @@ named-spec =
     size-requires
     stars-requires
     returns
-    asking-requires
+    all-asking-requires
     returns-2
-    bucket-requires
-    asks-requires
+    said-requires
+    one-asking-requires
     returns-3
-    asking-requires-2
+    all-asking-requires-2
     returns-4)

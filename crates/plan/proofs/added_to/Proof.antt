@@ -1,5 +1,5 @@
 -- `added_to` is the place of the first step that a bucket has, and the mark for several after that. Shown on each side of its branch. Assumes nothing.
-use Rattle.plan.proofs.Filing.{added-first, added-more}
+use Rattle.plan.proofs.Buckets.{added-first, added-more}
 use Rattle.plan.proofs.added_to.Statement.{statement}
 use Rattle.plan.proofs.added_to.Tie as tie
 

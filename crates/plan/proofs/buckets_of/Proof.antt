@@ -4,7 +4,7 @@ use native.Mathlib.Omega.{arith}
 use Prim.Native.Nat.{_-_, _≤_}
 use mathlib.Core.Path.{_≡_, sym, _∙_}
 use lib.ListN.{length, take, length-take}
-use Rattle.plan.proofs.Filing.{known, known-length, known-none, known-step, known-all}
+use Rattle.plan.proofs.Buckets.{known, known-length, known-none, known-step, known-all}
 use Rattle.plan.proofs.buckets_of.Statement.{statement}
 use Rattle.plan.proofs.buckets_of.Tie as tie
 

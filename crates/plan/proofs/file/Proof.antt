@@ -3,7 +3,8 @@ use Prim.Native.Nat.{_%_}
 use mathlib.Core.Path.{ap, _∙_}
 use lib.ListN.{set}
 use borrow.Author.Needs.{needs}
-use Rattle.plan.proofs.Filing.{filed-star, filed-name}
+use Rattle.plan.specs.Planned.{bucketCount}
+use Rattle.plan.proofs.Buckets.{filed-star, filed-name}
 use Rattle.plan.proofs.file.Statement.{statement}
 use Rattle.plan.proofs.file.Tie as tie
 
@@ -25,7 +26,7 @@ same-length c = search needs
 returns-2 : tie.Need-returns-2
 returns-2 c =
     let args = c .before .before .before .before .args in
-    ap (set (args .buckets .now) (args .name % 64)) (c .added-to .ensures) ∙ filed-name _ _ _ _ _ (c .before .before .if1 .left)
+    ap (set (args .buckets .now) (args .name % bucketCount)) (c .added-to .ensures) ∙ filed-name _ _ _ _ _ (c .before .before .if1 .left)
 
 pub file-spec : {M : Type 1} → statement M
 file-spec =

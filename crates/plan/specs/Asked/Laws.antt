@@ -1,15 +1,15 @@
 -- The steps told by buckets are those that a name passes. For any number of steps, any tests and any number of buckets.
 --
---   bucket-says        a bucket says the place of each step that asks for a name of it, or m
+--   bucket-says        a bucket says the place of each step that asks for a name of it, or m;  bucket-most: m at most
+--   bucket-none        it says 0 if no step does, and bucket-several: m only if two do
 --   own-compared       so each step that is no star is compared with its own name
 --   quick-plain        THE LAW: on what is kept for tests, quick tells the steps whose tests the name passes
 --   test-kept          and the test of each step that it goes by is the one that was kept
 --   quick-tests        on anything that is kept, quick tells the steps whose tests testOf the name passes
 --   quick-none, quick-one, quick-all      what quick tells for no name, and for a name that is compared with one step or with all
 --   test-same          what is kept alike for a step gives it one test
---   bucket-most        a bucket says m at most
 --
--- Assumes that there are at most m steps, and for quick-tests a name of 4 bytes.
+-- Assumes that there are at most m steps and that m is not 0, and for quick-tests a name of 4 bytes.
 use Prim.Native.Nat.{ℕ, zero, suc, _+_, _%_, _≤_, _<_}
 use native.Mathlib.Nat.{zero-add}
 use native.Mathlib.Omega.{arith}
@@ -24,7 +24,7 @@ use Rattle.meaning.specs.Name.{star, passes}
 use Rattle.sets.specs.Set.{member, join, onlyIf, maskOf}
 use Rattle.sets.specs.Set.Laws.{member-onlyIf}
 use Rattle.sets.specs.Set.Of.{member-maskOf, is-maskOf, maskOf-agree, maskOf-join}
-use Rattle.plan.specs.Asked.{Asking, compared, passed, quick, nobody, testOf, belongs, addedTo, bucketFrom, bucket, asking}
+use Rattle.plan.specs.Asked.{Asking, compared, finds, quick, nobody, testOf, belongs, addedTo, bucketFrom, bucket, asking}
 
 -- what a bucket says
 
@@ -79,7 +79,7 @@ module _ (m w s : ℕ) (some : 0 < m) where
       go later none rest false p zero l h = absurd (true≢false (sym h ∙ p))
       go later none rest false p (suc i) l h = next later i (rest i (omega arith) h)
 
-  pub bucket-says : (T : List ℕ) (i : ℕ) → i < length T → belongs w s (getD T i 0) ≡ true → (bucket m w T s ≡ i) ⊎ (bucket m w T s ≡ m)
+  bucket-says : (T : List ℕ) (i : ℕ) → i < length T → belongs w s (getD T i 0) ≡ true → (bucket m w T s ≡ i) ⊎ (bucket m w T s ≡ m)
   bucket-says T i l h = subst (λ k. (bucket m w T s ≡ k) ⊎ (bucket m w T s ≡ m)) (zero-add i) (says-from T 0 i l h)
 
   most-from : (ns : List ℕ) (t : ℕ) → t + length ns ≤ m → bucketFrom m w s t ns ≤ m
@@ -95,7 +95,72 @@ module _ (m w s : ℕ) (some : 0 < m) where
   pub bucket-most : (T : List ℕ) → length T ≤ m → bucket m w T s ≤ m
   bucket-most T h = most-from T 0 (omega arith)
 
--- a name that is none passes as a star's test alone
+  -- a step that asks for a name of the bucket
+  pub record Asks (ns : List ℕ) (i : ℕ) : Type 0 where
+    pub within : i < length ns
+    pub belonging : belongs w s (getD ns i 0) ≡ true
+
+  one-later : {n : ℕ} {ns : List ℕ} {i : ℕ} → Asks ns i → Asks (n ∷ ns) (suc i)
+  one-later a = record { within = omega (arith, a .within); belonging = a .belonging }
+
+  some-asks : (ns : List ℕ) (t : ℕ) → (bucketFrom m w s t ns ≡ 0) ⊎ ((i : ℕ) × Asks ns i)
+  unfolding bucketFrom
+  some-asks [] t = inl refl
+  some-asks (n ∷ ns) t = go (some-asks ns (suc t)) (belongs w s n) refl
+    where
+      go :
+          {later : ℕ} → (later ≡ 0) ⊎ ((i : ℕ) × Asks ns i) → (b : Bool) → belongs w s n ≡ b →
+          (cond b (addedTo m t later) later ≡ 0) ⊎ ((i : ℕ) × Asks (n ∷ ns) i)
+      go rest true p = inr (zero, record { within = omega arith; belonging = p })
+      go (inl e) false p = inl e
+      go (inr (i, a)) false p = inr (suc i, one-later a)
+
+  pub bucket-none : (T : List ℕ) → ((i : ℕ) → i < length T → belongs w s (getD T i 0) ≡ false) → bucket m w T s ≡ 0
+  bucket-none T none = go (some-asks T 0)
+    where
+      go : (bucket m w T s ≡ 0) ⊎ ((i : ℕ) × Asks T i) → bucket m w T s ≡ 0
+      go (inl e) = e
+      go (inr (i, a)) = absurd (true≢false (sym (a .belonging) ∙ none i (a .within)))
+
+  pub record Two (ns : List ℕ) : Type 0 where
+    pub first : ℕ
+    pub second : ℕ
+    pub apart : first < second
+    pub one : Asks ns first
+    pub other : Asks ns second
+
+  several-from : (ns : List ℕ) (t : ℕ) → t + length ns ≤ m → bucketFrom m w s t ns ≡ m → Two ns
+  unfolding bucketFrom
+  several-from [] t h e = absurd (omega arith)
+  several-from (n ∷ ns) t h e = go (some-asks ns (suc t)) (several-from ns (suc t) (omega arith)) (belongs w s n) refl e
+    where
+      here : {i : ℕ} → belongs w s n ≡ true → Asks ns i → Two (n ∷ ns)
+      here {i} p a =
+          record { first = zero; second = suc i; apart = omega arith; one = record { within = omega arith; belonging = p }; other = one-later a }
+
+      alone : (b : Bool) {later : ℕ} → later ≡ 0 → eqb later 0 ≡ b → cond b t m ≡ m → ⊥
+      alone true z q k = absurd (omega arith)
+      alone false {later} z q k = eqb-false later 0 q z
+
+      go :
+          {later : ℕ} → (later ≡ 0) ⊎ ((i : ℕ) × Asks ns i) → (later ≡ m → Two ns) → (b : Bool) → belongs w s n ≡ b →
+          cond b (addedTo m t later) later ≡ m → Two (n ∷ ns)
+      go {later} (inl z) rest true p k = absurd (alone (eqb later 0) z refl k)
+      go {later} (inr (i, a)) rest true p k = here p a
+      go found rest false p k =
+          let two : Two ns = rest k in
+          record {
+            first = suc (two .first);
+            second = suc (two .second);
+            apart = omega (arith, two .apart);
+            one = one-later (two .one);
+            other = one-later (two .other);
+          }
+
+  pub bucket-several : (T : List ℕ) → length T ≤ m → bucket m w T s ≡ m → Two T
+  bucket-several T h = several-from T 0 (omega arith)
+
+-- a star's test passes every name, another its own
 passed-star : (t n : ℕ) → t ≡ star → passes t n ≡ true
 unfolding passes
 passed-star t n e = ap (λ b. b || eqb t n) (eq-eqb t star e)
@@ -116,7 +181,7 @@ module _ (few m w : ℕ) (some : 0 < m) (T : List ℕ) (fits : length T ≤ m) (
   star-is : member (A .stars) t ≡ eqb n star
   star-is = member-maskOf (length T) (λ u. eqb (getD T u 0) star) t ∙ ap (λ b. b && eqb n star) (lt-ltb t (length T) l)
 
-  pub own-compared : (n ≡ star → ⊥) → compared A n t ≡ true
+  own-compared : (n ≡ star → ⊥) → compared A n t ≡ true
   unfolding compared
   own-compared f = go (ltb (length T) few) (bucket-says m w (n % w) some T t l (ap₂ (λ a b. not a && b) (ne-eqb n star f) (eq-eqb (n % w) (n % w) refl)))
     where
@@ -130,9 +195,9 @@ module _ (few m w : ℕ) (some : 0 < m) (T : List ℕ) (fits : length T ≤ m) (
       go false (inl e) = ap (λ b. b || not (ltb (bucket m w T (n % w)) (length T))) (eq-eqb _ t e)
       go false (inr e) = past (bucket m w T (n % w)) (omega arith)
 
-  passed-plain : (x : ℕ) → passed A x t ≡ passes n x
-  unfolding passed
-  passed-plain x = rw star-is (go (eqb n star) refl (eqb n x) refl)
+  finds-plain : (x : ℕ) → finds A x t ≡ passes n x
+  unfolding finds
+  finds-plain x = rw star-is (go (eqb n star) refl (eqb n x) refl)
     where
       own : n ≡ x → (n ≡ star → ⊥) → (not (eqb x star) && (true && compared A x t)) ≡ true
       own e f = rw (← e) (ap₂ (λ a b. not a && b) (ne-eqb n star f) (own-compared f))
@@ -153,14 +218,14 @@ module _ (few m w : ℕ) (some : 0 < m) (T : List ℕ) (fits : length T ≤ m) (
 pub quick-plain :
     (few m w : ℕ) (T : List ℕ) (x : ℕ) → 0 < m → length T ≤ m → quick (asking few m w T) x ≡ maskOf (length T) (λ t. passes (getD T t 0) x)
 unfolding quick
-quick-plain few m w T x some fits = maskOf-agree (length T) _ _ (λ t l. passed-plain few m w some T fits t l x)
+quick-plain few m w T x some fits = maskOf-agree (length T) _ _ (λ t l. finds-plain few m w some T fits t l x)
 
 -- anything that is kept
 
 module _ (A : Asking) (x : ℕ) (small : x < nobody) where
-  passed-test : (t : ℕ) → passed A x t ≡ passes (testOf A t) x
-  unfolding passed testOf
-  passed-test t = go (member (A .stars) t) (eqb (A .name t) star) refl (compared A (A .name t) t) refl (eqb (A .name t) x) refl
+  finds-test : (t : ℕ) → finds A x t ≡ passes (testOf A t) x
+  unfolding finds testOf
+  finds-test t = go (member (A .stars) t) (eqb (A .name t) star) refl (compared A (A .name t) t) refl (eqb (A .name t) x) refl
     where
       n : ℕ
       n = A .name t
@@ -188,7 +253,7 @@ module _ (A : Asking) (x : ℕ) (small : x < nobody) where
 
   pub quick-tests : quick A x ≡ maskOf (A .size) (λ t. passes (testOf A t) x)
   unfolding quick
-  quick-tests = maskOf-agree (A .size) _ _ (λ t l. passed-test t)
+  quick-tests = maskOf-agree (A .size) _ _ (λ t l. finds-test t)
 
 -- what is told, by how many steps are compared
 
@@ -200,7 +265,7 @@ module _ (A : Asking) (x : ℕ) where
   asks t = eqb (A .name t) x
 
   pub quick-none : x ≡ star → quick A x ≡ stars
-  unfolding quick passed
+  unfolding quick finds
   quick-none e =
       maskOf-agree (A .size) _ _
       (λ t l. ap (λ b. member (A .stars) t || (not b && (asks t && compared A x t))) (eq-eqb x star e) ∙ or-false (member (A .stars) t))
@@ -208,7 +273,7 @@ module _ (A : Asking) (x : ℕ) where
   -- with the steps that pass C compared
   told : (C : ℕ → Bool) → (x ≡ star → ⊥) → ((t : ℕ) → t < A .size → compared A x t ≡ C t) →
       quick A x ≡ join stars (maskOf (A .size) (λ t. asks t && C t))
-  unfolding quick passed
+  unfolding quick finds
   told C f e =
       maskOf-agree (A .size) _ _ (λ t l. ap₂ (λ a b. member (A .stars) t || (not a && (asks t && b))) (ne-eqb x star f) (e t l))
       ∙ maskOf-join (A .size) (member (A .stars)) (λ t. asks t && C t)

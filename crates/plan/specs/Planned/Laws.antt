@@ -5,7 +5,7 @@
 --   planOf-admitted   and so for every query that the check admits; columns-admitted: column by column
 --   right-admitted    and that plan is right, as its order is
 --   plan-hung         a plan keeps for each step what hangs on it
---   planOf-long       a plan of any bytes has 32 slots, and at most so many steps
+--   planOf-long       a plan of any bytes has 32 slots, 64 buckets, and at most 32 steps
 --   plan-one          two results that the promise of `plan_of` allows are equal
 --
 -- Assumes nothing but admission.

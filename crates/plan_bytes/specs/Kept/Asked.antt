@@ -3,8 +3,8 @@
 --   named-quick      by the plan that the bytes stand for they are those that buckets tell
 --   told-none        for no name: the stars
 --   told-few         of few steps: the stars, and those that ask for the name
---   told-one         where its bucket says a step: the stars, and that step if it asks for the name
---   told-all         where it says none: as of few
+--   told-one         where its bucket says a step's place: the stars, and that step if it asks for the name
+--   told-all         where it says no step's place: as of few
 --
 -- Assumes a name of 4 bytes.
 use Prim.Native.Nat.{ℕ, _%_, _≤_, _<_}
@@ -30,7 +30,7 @@ module _ (bs : List ℕ) (x : ℕ) (small : x < nobody) where
   abbrev A : Asking
   A = askingIn bs
 
-  pub named-quick : quick A x ≡ named (keptIn bs) x
+  named-quick : quick A x ≡ named (keptIn bs) x
   unfolding named keptIn askingIn
   named-quick =
       quick-tests A x small

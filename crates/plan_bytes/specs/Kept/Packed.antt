@@ -152,7 +152,7 @@ module _ (p : struct.Plan) where
           ∙ ap (λ u. getD (p .names) u 0) odd
       go (suc (suc d)) e = absurd (omega arith)
 
-  bucket-at : (s : ℕ) → s < 64 → ((u : ℕ) → u < 64 → getD (p .buckets) u 0 < 256) → bucketIn bytes s ≡ getD (p .buckets) s 0
+  bucket-at : (s : ℕ) → s < bucketCount → ((u : ℕ) → u < bucketCount → getD (p .buckets) u 0 < 256) → bucketIn bytes s ≡ getD (p .buckets) s 0
   bucket-at s h small = go (s % 4) refl
     where
       i : ℕ
@@ -209,9 +209,8 @@ module _ (P : Plan) (few : length (P .tests) ≤ 32) (both : length (P .hung) �
   unfolding columns
   size-is = ap sizeOf (number-at 0 ∙ mask-at p 0 (omega arith)) ∙ ap sizeOf (min-eq-left few) ∙ min-eq-left few
 
-  stars-are : getD (words (bytes p)) 5 0 ≡ starsOf (P .tests)
-  unfolding columns
-  stars-are = number-at 5 ∙ mask-at p 5 (omega arith)
+  set-at : (j : ℕ) → j < 6 → getD (words (bytes p)) j 0 ≡ getD (masks p) j 0
+  set-at j h = number-at j ∙ mask-at p j h
 
   column-at : (xs : List ℕ) (t : ℕ) → t < length xs → getD (filled xs) t 0 ≡ getD xs t 0
   column-at xs t h = List·getD-append xs (zeros (32 - length xs)) 0 t h
@@ -220,11 +219,14 @@ module _ (P : Plan) (few : length (P .tests) ≤ 32) (both : length (P .hung) �
   test-is : (t : ℕ) → t < length (P .tests) → testOf (askingIn (bytes p)) t ≡ getD (P .tests) t 0
   unfolding askingIn
   test-is t h =
-      test-same (askingIn (bytes p)) (asking fewSteps severalSteps bucketCount (P .tests)) t size-is stars-are name place
+      test-same (askingIn (bytes p)) (asking fewSteps severalSteps bucketCount (P .tests)) t size-is stars name place
       ∙ test-kept fewSteps severalSteps bucketCount (omega arith) (P .tests) few t h
     where
       x : ℕ
       x = getD (P .tests) t 0
+
+      stars : getD (words (bytes p)) 5 0 ≡ starsOf (P .tests)
+      stars = unfold columns in set-at 5 (omega arith)
 
       name : nameIn (bytes p) t ≡ x
       name = unfold columns in name-at p t (omega arith) names ∙ column-at (P .tests) t h
@@ -251,9 +253,6 @@ module _ (P : Plan) (few : length (P .tests) ≤ 32) (both : length (P .hung) �
       ∙ rows-same (length (P .hung)) _ (λ t. getD (P .hung) t 0)
       (λ t h. number-at (40 + t) ∙ hung-at p t (omega arith) ∙ column-at (P .hung) t h)
       ∙ sym (is-rows (length (P .hung)) (λ t. getD (P .hung) t 0) 0 (P .hung) refl (λ t h. refl))
-
-  set-at : (j : ℕ) → j < 6 → getD (words (bytes p)) j 0 ≡ getD (masks p) j 0
-  set-at j h = number-at j ∙ mask-at p j h
 
   pub kept-packed : keptIn (bytesOf (packed (columns P))) ≡ P
   unfolding keptIn columns

@@ -1,9 +1,9 @@
--- `bucket` reads a byte. Assumes nothing.
+-- `said` reads a byte. Assumes nothing.
 use borrow.Author.Needs.{needs}
 use native.Mathlib.Omega.{arith}
 use Rattle.plan_bytes.specs.Kept.Laws.{room-is}
-use Rattle.plan_bytes.proofs.bucket.Statement.{statement}
-use Rattle.plan_bytes.proofs.bucket.Tie as tie
+use Rattle.plan_bytes.proofs.said.Statement.{statement}
+use Rattle.plan_bytes.proofs.said.Tie as tie
 
 add-byte : tie.Need-add-byte
 add-byte c = search needs
@@ -17,5 +17,5 @@ cast-result c = search needs
 returns : tie.Need-returns
 returns c = c .byte .ensures
 
-pub bucket-spec : {M : Type 1} → statement M
-bucket-spec = tie.close (tie.spec add-byte byte-requires cast-result returns)
+pub said-spec : {M : Type 1} → statement M
+said-spec = tie.close (tie.spec add-byte byte-requires cast-result returns)

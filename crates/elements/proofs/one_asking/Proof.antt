@@ -4,8 +4,8 @@ use mathlib.Core.Path.{ap, _∙_}
 use lib.Dec.{eqb}
 use Rattle.sets.specs.Set.{onlyIf}
 use Rattle.sets.specs.Collect.{flag-shift}
-use Rattle.elements.proofs.asks.Statement.{statement}
-use Rattle.elements.proofs.asks.Tie as tie
+use Rattle.elements.proofs.one_asking.Statement.{statement}
+use Rattle.elements.proofs.one_asking.Tie as tie
 
 name-requires : tie.Need-name-requires
 name-requires c κs = search needs
@@ -24,5 +24,5 @@ returns c =
     let args = c .before .before .args in
     flag-shift 32 _ _ (c .before .before .pre .1) ∙ ap (λ n. onlyIf (eqb n (args .x)) (args .place)) (c .name .ensures)
 
-pub asks-spec : {M : Type 1} → statement M
-asks-spec = tie.close (tie.spec name-requires cast-result cast-result-2 shl-result returns)
+pub one-asking-spec : {M : Type 1} → statement M
+one-asking-spec = tie.close (tie.spec name-requires cast-result cast-result-2 shl-result returns)
