@@ -1,6 +1,5 @@
 -- `stars` reads a set of steps, and cuts it. Assumes nothing.
 use mathlib.Core.Path.{ap}
-use borrow.Author.Needs.{needs}
 use native.Mathlib.Omega.{arith}
 use Rattle.sets.specs.Set.{meet}
 use Rattle.plan_bytes.specs.Kept.Laws.{room-is, kept-size, stars-is}
