@@ -19,14 +19,14 @@ pub fn names(chance: &mut Chance) -> Vec<u16> {
     (0..few).map(|n| if chance.percent(8) { *chance.pick(&[255, 256, 257, 65_535]) } else { n as u16 + 1 }).collect()
 }
 
-/// By this number's remainders a picker tells names apart at first.
-const BUCKETS: u16 = 64;
+/// By their remainders the picker tells names apart at first.
+pub const BUCKETS: u16 = 64;
 
-/// Names as above; now and then such that leave one remainder, or many.
+/// Names as above; now and then some that leave one remainder, or many of which two and two do.
 pub fn mixed_names(chance: &mut Chance) -> Vec<u16> {
-    match chance.between(1, 8) {
-        1 => (0..chance.between(2, 4) as u16).map(|n| BUCKETS * n + 5).collect(),
-        2 => (1..=40).map(|n| n + BUCKETS * chance.between(0, 2) as u16).collect(),
+    match chance.between(1, 6) {
+        1 => (0..chance.between(3, 6) as u16).map(|n| BUCKETS * n + 5).collect(),
+        2 => (1..=20).flat_map(|n| [n, n + BUCKETS]).collect(),
         _ => names(chance),
     }
 }
