@@ -2,7 +2,8 @@
 // names that the steps ask for, 2 bytes each, 24 to 39 the buckets, a byte each, 40 to 71 the predicate steps that hang on each step.
 //
 // An element's name is compared with the step that its bucket says, and with all steps only where the bucket says that several ask for names of it or where
-// there are few steps. In any bytes a step has the test by which it is found so: one that its own name does not find has a test that no name passes.
+// there are few steps. In any bytes a step has the test by which it is found so: a step that is no star and that its own name does not find has a test that
+// no name passes.
 ghost use mathlib.Core.Path.{_≡_};
 ghost use Prim.Native.Nat.{_+_, _*_, _%_, _≤_, _<_};
 ghost use lib.ListN.{length, getD};
