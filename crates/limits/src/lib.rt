@@ -64,3 +64,78 @@ pub const BAD_HANG: u8 = 3;
 
 // "a byte that must be 0"
 pub const BAD_ZERO: u8 = 4;
+
+// The reader of XML text. "Names are ASCII, at most 64 bytes"
+pub const NAME_BYTES: usize = 64;
+
+// "a tag has at most 16 attributes"
+pub const ATTRIBUTES: usize = 16;
+
+// "a list the caller lends of at most 65,533 names"
+pub const NAMES: usize = 65533;
+
+// "an unknown name gets number 65,534"
+pub const UNKNOWN_NAME: u32 = 65534;
+
+// "A comment inside the document element is an open and a close of 65,535"
+pub const REMARK_NAME: u32 = 65535;
+
+// Its refusals, in the words of docs/XML.md: "no text that is read goes on with this byte, and none of 31 to 43 applies"
+pub const MISPLACED: u8 = 30;
+
+// "a byte does not go on as the UTF-8 form of a Char"
+pub const NOT_CHAR: u8 = 31;
+
+// a document type
+pub const DOCTYPE: u8 = 32;
+
+// a processing instruction
+pub const INSTRUCTION: u8 = 33;
+
+// a CDATA section
+pub const CDATA: u8 = 34;
+
+// a character reference
+pub const CHAR_REFERENCE: u8 = 35;
+
+// "a byte with which none of the five entities goes on"
+pub const OTHER_ENTITY: u8 = 36;
+
+// "a tag's or an attribute's name goes on after 64 bytes"
+pub const LONG_NAME: u8 = 37;
+
+// "a 17th attribute begins on a tag"
+pub const MANY_ATTRIBUTES: u8 = 38;
+
+// an attribute's name for the second time
+pub const TWICE: u8 = 39;
+
+// "an end tag spells another name than its start tag"
+pub const OTHER_END: u8 = 40;
+
+// "an element begins inside 256 others"
+pub const NESTED: u8 = 41;
+
+// another encoding
+pub const OTHER_ENCODING: u8 = 42;
+
+// a name beyond ASCII
+pub const FOREIGN_NAME: u8 = 43;
+
+// "the text ends, and it is not a whole document"
+pub const UNENDED: u8 = 44;
+
+// "less room is lent than a call needs"
+pub const SCANT: u8 = 45;
+
+// the reader is stopped
+pub const READER_STOPPED: u8 = 46;
+
+// "the list has a 65,534th line"
+pub const MANY_NAMES: u8 = 47;
+
+// "a line of the list is a name of more than 64 bytes"
+pub const LONG_LISTED: u8 = 48;
+
+// "a line of the list is no name"
+pub const NOT_NAME: u8 = 49;

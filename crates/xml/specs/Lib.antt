@@ -1,0 +1,4 @@
+pub mod Class
+pub mod Chars
+pub mod Bounds
+pub mod Refused
