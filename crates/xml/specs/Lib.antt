@@ -2,3 +2,5 @@ pub mod Class
 pub mod Chars
 pub mod Bounds
 pub mod Refused
+pub mod Grammar
+pub mod Machine
