@@ -148,13 +148,13 @@ mayFollow (Option.some standalone) standalone = false
 pub data Told : Option Part → List ℕ → Type 0 where
   begun : Told Option.none (60 ∷ 63 ∷ 120 ∷ 109 ∷ 108 ∷ [])
   part :
-    {o : Option Part} {t u v w : List ℕ} (k : Part) (q : Bool)
-    → Told o t
-    → T (mayFollow o k)
-    → S u
-    → Eq v
-    → OneOf (partValues k (quote q)) w
-    → Told (Option.some k) (t ++ (u ++ (partName k ++ (v ++ (quote q ∷ w)))))
+      {o : Option Part} {t u v w : List ℕ} (k : Part) (q : Bool)
+      → Told o t
+      → T (mayFollow o k)
+      → S u
+      → Eq v
+      → OneOf (partValues k (quote q)) w
+      → Told (Option.some k) (t ++ (u ++ (partName k ++ (v ++ (quote q ∷ w)))))
 
 -- [23] XMLDecl ::= '<?xml' VersionInfo EncodingDecl? SDDecl? S? '?>', or nothing
 pub data Decl : List ℕ → Type 0 where
@@ -190,15 +190,15 @@ module _ (L : Limits) where
   pub data Attributes : List (List ℕ) → List ℕ → Type 0 where
     none : Attributes [] []
     more :
-      {ms : List (List ℕ)} {t u m v w : List ℕ}
-      → Attributes ms t
-      → S u
-      → T (L .atts (suc (length ms)))
-      → Name m
-      → T (not (among m ms))
-      → Eq v
-      → AttValue w
-      → Attributes (m ∷ ms) (t ++ (u ++ (m ++ (v ++ w))))
+        {ms : List (List ℕ)} {t u m v w : List ℕ}
+        → Attributes ms t
+        → S u
+        → T (L .atts (suc (length ms)))
+        → Name m
+        → T (not (among m ms))
+        → Eq v
+        → AttValue w
+        → Attributes (m ∷ ms) (t ++ (u ++ (m ++ (v ++ w))))
 
   -- [40] STag ::= '<' Name (S Attribute)* S? '>'
   pub data STag : List ℕ → List ℕ → Type 0 where
@@ -217,31 +217,31 @@ module _ (L : Limits) where
   pub data Derives : Symbol → List ℕ → List Ev → Type 0 where
     empty : {d : ℕ} {n t : List ℕ} → T (L .nest (suc d)) → EmptyElemTag n t → Derives (element′ d) t (opens n ∷ closes n ∷ [])
     element :
-      {d : ℕ} {n t u v : List ℕ} {k : Br} {es : List Ev}
-      → T (L .nest (suc d))
-      → STag n t
-      → Derives (content′ (suc d) k) u es
-      → ETag n v
-      → Derives (element′ d) (t ++ (u ++ v)) (opens n ∷ (es ++ (closes n ∷ [])))
+        {d : ℕ} {n t u v : List ℕ} {k : Br} {es : List Ev}
+        → T (L .nest (suc d))
+        → STag n t
+        → Derives (content′ (suc d) k) u es
+        → ETag n v
+        → Derives (element′ d) (t ++ (u ++ v)) (opens n ∷ (es ++ (closes n ∷ [])))
     data′ : {d : ℕ} {k : Br} {t : List ℕ} → Run k t → Derives (content′ d k) t []
     child :
-      {d : ℕ} {j k : Br} {t u v : List ℕ} {es fs : List Ev}
-      → Derives (content′ d j) t es
-      → Derives (element′ d) u fs
-      → Run k v
-      → Derives (content′ d k) (t ++ (u ++ v)) (es ++ fs)
+        {d : ℕ} {j k : Br} {t u v : List ℕ} {es fs : List Ev}
+        → Derives (content′ d j) t es
+        → Derives (element′ d) u fs
+        → Run k v
+        → Derives (content′ d k) (t ++ (u ++ v)) (es ++ fs)
     refer :
-      {d : ℕ} {j k : Br} {t u v : List ℕ} {es : List Ev}
-      → Derives (content′ d j) t es
-      → Reference u
-      → Run k v
-      → Derives (content′ d k) (t ++ (u ++ v)) es
+        {d : ℕ} {j k : Br} {t u v : List ℕ} {es : List Ev}
+        → Derives (content′ d j) t es
+        → Reference u
+        → Run k v
+        → Derives (content′ d k) (t ++ (u ++ v)) es
     remarked :
-      {d : ℕ} {j k : Br} {t u v : List ℕ} {es : List Ev}
-      → Derives (content′ d j) t es
-      → Comment u
-      → Run k v
-      → Derives (content′ d k) (t ++ (u ++ v)) (es ++ (remark ∷ []))
+        {d : ℕ} {j k : Br} {t u v : List ℕ} {es : List Ev}
+        → Derives (content′ d j) t es
+        → Comment u
+        → Run k v
+        → Derives (content′ d k) (t ++ (u ++ v)) (es ++ (remark ∷ []))
 
   abbrev pub Element : ℕ → List ℕ → List Ev → Type 0
   Element d t es = Derives (element′ d) t es

@@ -21,7 +21,24 @@ use Rattle.xml.specs.Chars.{blank, nameStart, nameChar, beyond, utf8, no
 use Rattle.xml.specs.Refused
 use Rattle.xml.specs.Refused.{misplaced, notChar, instruction, otherEntity, longName, otherEnd, foreignName}
 use Rattle.xml.specs.Grammar.{
-  Limits, Ev, opens, closes, remark, entities, Br, b0, b1, b2, bracket, among, Part, version, encoding, standalone, partValues, mayFollow
+  Limits,
+  Ev,
+  opens,
+  closes,
+  remark,
+  entities,
+  Br,
+  b0,
+  b1,
+  b2,
+  bracket,
+  among,
+  Part,
+  version,
+  encoding,
+  standalone,
+  partValues,
+  mayFollow,
 }
 
 pub data Place : Type 0 where
