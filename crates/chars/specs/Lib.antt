@@ -1,0 +1,4 @@
+pub mod Marks
+pub mod Forms
+pub mod Same
+pub mod Entities
