@@ -1,0 +1,34 @@
+-- The reader's moves.
+--
+--   goTo r m               on in the mode m
+--   refuseWith r x         stopped by the refusal x, where it stands
+--   spellOn r m row n      on in a spelling, n bytes of which were read
+--   goAside r m n k        on in the mode m, to come back to k
+--   giveOut r g m p        events are given, and the reader is at the place p
+--   countTo r m k          the count is k
+--
+-- Assumes nothing.
+use Prim.Native.Nat.{ℕ}
+use Rattle.modes.specs.declared.Mode.{Mode}
+use Rattle.modes.specs.declared.Gives.{Gives}
+use Rattle.modes.specs.declared.Gives.the-variants.{Nothing}
+use Rattle.modes.specs.declared.Reader.{Reader}
+
+abbrev pub goTo : Reader → Mode → Reader
+goTo r m = record { mode = m; back = r .back; n = 0; row = r .row; count = r .count; gives = Nothing; refusal = 0; place = r .place }
+
+abbrev pub refuseWith : Reader → ℕ → Reader
+refuseWith r x =
+    record { mode = r .mode; back = r .back; n = r .n; row = r .row; count = r .count; gives = Nothing; refusal = x; place = r .place }
+
+abbrev pub spellOn : Reader → Mode → ℕ → ℕ → Reader
+spellOn r m row n = record { mode = m; back = r .back; n = n; row = row; count = r .count; gives = Nothing; refusal = 0; place = r .place }
+
+abbrev pub goAside : Reader → Mode → ℕ → Mode → Reader
+goAside r m n k = record { mode = m; back = k; n = n; row = 0; count = r .count; gives = Nothing; refusal = 0; place = r .place }
+
+abbrev pub giveOut : Reader → Gives → Mode → ℕ → Reader
+giveOut r g m p = record { mode = m; back = r .back; n = 0; row = r .row; count = 0; gives = g; refusal = 0; place = p }
+
+abbrev pub countTo : Reader → Mode → ℕ → Reader
+countTo r m k = record { mode = m; back = r .back; n = 0; row = r .row; count = k; gives = Nothing; refusal = 0; place = r .place }

@@ -1,0 +1,41 @@
+-- The slots' numbers, and what is read and written of one.
+--
+--   room-is                   18,496 bytes
+--   base-inside, base-past    where a slot begins that is there, and one that is not
+--   length-long, length-short      the length of a name that counts as 64, and as it is
+--   number-read               the number from its two bytes
+--
+-- Assumes nothing.
+use Prim.Native.Nat.{ℕ, _+_, _*_, _≤_, _<_}
+use mathlib.Core.Path.{_≡_, refl, sym, ap, ap₂, _∙_, subst}
+use mathlib.Core.List.{List}
+use lib.ListN.{getD}
+use borrow.Author.Tests.{lt-ltb, le-ltb}
+use Rattle.choice.specs.When.{when-true, when-false}
+use Rattle.slots.specs.Slots.{roomNeeded, baseOf, lengthIn, numberIn}
+
+pub room-is : roomNeeded ≡ 18_496
+unfolding roomNeeded
+room-is = refl
+
+pub base-inside : (s : ℕ) → s < 272 → s * 68 ≡ baseOf s
+unfolding baseOf
+base-inside s h = sym (when-true _ _ _ (lt-ltb s 272 h))
+
+pub base-past : (s : ℕ) → 272 ≤ s → 0 ≡ baseOf s
+unfolding baseOf
+base-past s h = sym (when-false _ (s * 68) _ (le-ltb s 272 h))
+
+module _ (R : List ℕ) (s at : ℕ) (e : at ≡ baseOf s) where
+  pub length-long : 64 < getD R (at + 64) 0 → 64 ≡ lengthIn R s
+  unfolding lengthIn
+  length-long h = sym (when-true _ _ (getD R (baseOf s + 64) 0) (lt-ltb 64 _ (subst (λ k. 64 < getD R (k + 64) 0) e h)))
+
+  pub length-short : getD R (at + 64) 0 ≤ 64 → getD R (at + 64) 0 ≡ lengthIn R s
+  unfolding lengthIn
+  length-short h =
+      ap (λ k. getD R (k + 64) 0) e ∙ sym (when-false _ 64 (getD R (baseOf s + 64) 0) (le-ltb 64 _ (subst (λ k. getD R (k + 64) 0 ≤ 64) e h)))
+
+  pub number-read : getD R (at + 65) 0 * 256 + getD R (at + 66) 0 ≡ numberIn R s
+  unfolding numberIn
+  number-read = ap (λ k. getD R (k + 65) 0 * 256 + getD R (k + 66) 0) e
