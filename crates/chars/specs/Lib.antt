@@ -2,3 +2,4 @@ pub mod Marks
 pub mod Forms
 pub mod Same
 pub mod Entities
+pub mod Said

@@ -2,16 +2,14 @@
 ghost use mathlib.Core.Path.{_≡_};
 ghost use Rattle.modes.specs.Moves.{goTo, refuseWith, spellOn, goAside, giveOut, countTo};
 
-// What was read last. Beside each mode, what may come next.
-pub enum Mode {
+// What was read last in the prolog, but for markup. Beside each, what may come next.
+pub enum Prolog {
     // At the start: a byte order mark, a blank or '<'.
     Start,
     // In the byte order mark: its next byte, of which n were read.
     Mark,
     // After it: a blank or '<'.
     Fresh,
-    // '<' at the very start: '?' of the XML declaration, or any markup.
-    First,
     // "<?xml", of which n bytes were read.
     Xml,
     // "<?xml": a blank.
@@ -29,6 +27,13 @@ pub enum Mode {
     Told,
     // Its '?': '>'.
     Query,
+}
+
+// What was read last.
+pub enum Mode {
+    Prolog(Prolog),
+    // '<' at the very start: '?' of the XML declaration, or any markup.
+    First,
     // Around the document element: blanks and '<'.
     Around,
     // Character data; with one ']' at its end; with two or more.

@@ -1,0 +1,24 @@
+-- Tests of a number that a call has answered, by its promise and by what the code found.
+--
+--   said       the laws that a search goes by, beside `tests`: the number answered is, or is not, one of two that are compared
+--
+-- The laws take all their arguments, so that a search can give them. Assumes nothing.
+use Prim.Native.Nat.{ℕ}
+use mathlib.Core.Path.{_≡_, sym, _∙_}
+use mathlib.Core.Bool.{true, false}
+use lib.Dec.{eqb}
+use borrow.Author.Tests.{eq-eqb, ne-eqb}
+
+pub left-is : (r m k : ℕ) → r ≡ m → r ≡ k → eqb m k ≡ true
+left-is r m k p q = eq-eqb m k (sym p ∙ q)
+
+pub left-other : (r m k : ℕ) → r ≡ m → (r ≡ k → ⊥) → eqb m k ≡ false
+left-other r m k p f = ne-eqb m k (λ e. f (p ∙ e))
+
+pub right-is : (r m k : ℕ) → r ≡ m → k ≡ r → eqb k m ≡ true
+right-is r m k p q = eq-eqb k m (q ∙ p)
+
+pub right-other : (r m k : ℕ) → r ≡ m → (k ≡ r → ⊥) → eqb k m ≡ false
+right-other r m k p f = ne-eqb k m (λ e. f (e ∙ sym p))
+
+pub ruleset said = (left-is, left-other, right-is, right-other)
