@@ -8,6 +8,7 @@
 --   countTo r m k          the count is k
 --
 -- Assumes nothing.
+pub mod Laws
 use Prim.Native.Nat.{ℕ}
 use Rattle.modes.specs.declared.Mode.{Mode}
 use Rattle.modes.specs.declared.Gives.{Gives}
