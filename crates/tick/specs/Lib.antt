@@ -1,3 +1,1 @@
-pub mod Text
-pub mod Tag
-pub mod Found
+pub mod Tick

@@ -1,218 +1,40 @@
 // One byte of text: the reader after it, or refused, and what stands in its room then.
-use chars::BLANK;
-use chars::NAME_CHAR;
-use limits::MISPLACED;
-use modes::AFTER;
-use modes::Gives;
-use modes::Mode;
-use modes::Prolog;
-use modes::Reader;
+use modes::{Mode, Reader};
 ghost use mathlib.Core.Path.{_≡_};
-ghost use Prim.Native.Nat.{_≤_};
 ghost use lib.ListN.{length};
 ghost use Rattle.slots.specs.Slots.{roomNeeded};
-ghost use Rattle.tick.specs.Text.{wideTick, dataTick, noteTick, remarkedTick, entityTick, amperTick, charTick, bangTick};
-ghost use Rattle.tick.specs.Tag.{Ticked, begun, slashedTick, markupTick, firstTick};
+ghost use Rattle.tags.specs.Markup.{Ticked};
+ghost use Rattle.tick.specs.Tick.{tick};
 
-// The first byte of a character of several bytes.
-fn wide(r: Reader, b: u8, back: Mode) -> Reader
-    ensures { λ x. ⌜ x ≡ wideTick r b back ⌝ }
-{
-    let form = chars::lead(b);
-    if form == 0 {
-        return modes::refuse(r, limits::NOT_CHAR);
-    }
-    modes::aside(r, Mode::Char, form, back)
-}
-
-// A byte of one that is not the first.
-fn character(r: Reader, b: u8) -> Reader
-    ensures { λ x. ⌜ x ≡ charTick r b ⌝ }
-{
-    let form = chars::follow(r.n, b);
-    if form == 0 {
-        return modes::refuse(r, limits::NOT_CHAR);
-    }
-    if form == chars::WHOLE {
-        let back = r.back;
-        return modes::go(r, back);
-    }
-    modes::spell(r, Mode::Char, 0, form)
-}
-
-// Character data, in which `bracket` is the mode after a ']'; where it is shut a '>' is refused.
-fn data(marks: &[u8; 256], r: Reader, b: u8, bracket: Mode, shut: bool) -> Reader
-    ensures { λ x. ⌜ x ≡ dataTick (now (marks .entry)) r b bracket shut ⌝ }
-{
-    if chars::has(marks, b, chars::PLAIN) {
-        return modes::go(r, Mode::Data);
-    }
-    if b == b'<' {
-        return modes::go(r, Mode::Markup);
-    }
-    if b == b'&' {
-        return modes::aside(r, Mode::Amper, 0, Mode::Data);
-    }
-    if b == b']' {
-        return modes::go(r, bracket);
-    }
-    if b == b'>' {
-        if shut {
-            return modes::refuse(r, MISPLACED);
-        }
-        return modes::go(r, Mode::Data);
-    }
-    wide(r, b, Mode::Data)
-}
-
-// "The fixed openings `<!--` and `<?xml` are compared byte for byte"
-fn bang(r: Reader, b: u8) -> Reader
-    ensures { λ x. ⌜ x ≡ bangTick r b ⌝ }
-{
-    let opening = b"<!--";
-    let k = r.n as usize;
-    if 4 <= k {
-        return modes::refuse(r, MISPLACED);
-    }
-    if b == opening[k] {
-        if k == 3 {
-            return modes::go(r, Mode::Note);
-        }
-        return modes::spell(r, Mode::Bang, 0, r.n + 1);
-    }
-    if k != 2 {
-        return modes::refuse(r, MISPLACED);
-    }
-    if b == b'[' {
-        return modes::refuse(r, limits::CDATA);
-    }
-    if b == b'D' {
-        return modes::refuse(r, limits::DOCTYPE);
-    }
-    modes::refuse(r, MISPLACED)
-}
-
-// A comment, in which `dash` is the mode after a '-'.
-fn note(marks: &[u8; 256], r: Reader, b: u8, dash: Mode) -> Reader
-    ensures { λ x. ⌜ x ≡ noteTick (now (marks .entry)) r b dash ⌝ }
-{
-    if chars::has(marks, b, chars::NO_DASH) {
-        return modes::go(r, Mode::Note);
-    }
-    if b == b'-' {
-        return modes::go(r, dash);
-    }
-    wide(r, b, Mode::Note)
-}
-
-// The '>' of a comment.
-fn remarked(r: Reader, b: u8) -> Reader
-    ensures { λ x. ⌜ x ≡ remarkedTick r b ⌝ }
-{
-    if b != b'>' {
-        return modes::refuse(r, MISPLACED);
-    }
-    if r.place == 0 {
-        return modes::go(r, Mode::Around);
-    }
-    if r.place == AFTER {
-        return modes::go(r, Mode::Around);
-    }
-    modes::give(r, Gives::Remark, Mode::Data, r.place)
-}
-
-// A byte of an entity.
-fn entity(r: Reader, b: u8) -> Reader
-    ensures { λ x. ⌜ x ≡ entityTick r b ⌝ }
-{
-    let row = chars::entity(r.row, r.n, b);
-    if row == chars::NO_ENTITY {
-        return modes::refuse(r, limits::OTHER_ENTITY);
-    }
-    if b == b';' {
-        let back = r.back;
-        return modes::go(r, back);
-    }
-    if 5 <= r.n {
-        return modes::refuse(r, limits::OTHER_ENTITY);
-    }
-    modes::spell(r, Mode::Amper, row, r.n + 1)
-}
-
-// A byte after '&'.
-fn amper(r: Reader, b: u8) -> Reader
-    ensures { λ x. ⌜ x ≡ amperTick r b ⌝ }
-{
-    if r.n != 0 {
-        return entity(r, b);
-    }
-    if b == b'#' {
-        return modes::refuse(r, limits::CHAR_REFERENCE);
-    }
-    entity(r, b)
-}
-
-// An element begins.
-fn begin(r: Reader, b: u8, room: &mut [u8]) -> Reader
+pub fn tick(marks: &[u8; 256], r: Reader, b: u8, room: &mut [u8]) -> Reader
     requires { ⌜ length (now room) ≡ roomNeeded ⌝ }
-    ensures { λ x. ⌜ record { reader = x; room = now (room .exit) } ≡ begun r b (now (room .entry)) ⌝ }
+    ensures { λ x. ⌜ record { reader = x; room = now (room .exit) } ≡ tick (now (marks .entry)) r b (now (room .entry)) ⌝ }
 {
-    if r.place == AFTER {
-        return modes::refuse(r, MISPLACED);
+    let mode = r.mode;
+    match mode {
+        Mode::Prolog(p) => prolog::tick(marks, r, p, b),
+        Mode::First => tags::first(marks, r, b, room),
+        Mode::Around => prolog::around(marks, r, b, Mode::Markup),
+        Mode::Data => content::data(marks, r, b, Mode::Bracket, false),
+        Mode::Bracket => content::data(marks, r, b, Mode::Brackets, false),
+        Mode::Brackets => content::data(marks, r, b, Mode::Brackets, true),
+        Mode::Markup => tags::markup(marks, r, b, room),
+        Mode::Bang => content::bang(r, b),
+        Mode::Note => content::note(marks, r, b, Mode::Dash),
+        Mode::Dash => content::note(marks, r, b, Mode::Dashes),
+        Mode::Dashes => content::remarked(r, b),
+        Mode::Amper => content::amper(r, b),
+        Mode::Char => content::character(r, b),
+        Mode::Tag => tags::tag(marks, r, b, room),
+        Mode::Tagged => tags::tagged(marks, r, b),
+        Mode::Gap => tags::gap(marks, r, b, room),
+        Mode::Att => tags::attribute(marks, r, b, room),
+        Mode::Equals => tags::equals(marks, r, b),
+        Mode::Value => tags::value(marks, r, b),
+        Mode::Double => tags::quoted(marks, r, b, chars::IN_DOUBLE, b'"'),
+        Mode::Single => tags::quoted(marks, r, b, chars::IN_SINGLE, b'\''),
+        Mode::Slash => ends::emptied(r, b),
+        Mode::End => ends::end(marks, r, b, &*room),
+        Mode::Ended => ends::ended(marks, r, b),
     }
-    if limits::DEPTH <= r.place as usize {
-        return modes::refuse(r, limits::NESTED);
-    }
-    slots::put(room, r.place as usize, 0, b);
-    modes::spell(r, Mode::Tag, 0, 1)
-}
-
-// An end tag begins.
-fn slashed(r: Reader) -> Reader
-    ensures { λ x. ⌜ x ≡ slashedTick r ⌝ }
-{
-    if r.place == 0 {
-        return modes::refuse(r, MISPLACED);
-    }
-    if limits::DEPTH < r.place as usize {
-        return modes::refuse(r, MISPLACED);
-    }
-    modes::go(r, Mode::End)
-}
-
-// A byte after '<'.
-fn markup(marks: &[u8; 256], r: Reader, b: u8, room: &mut [u8]) -> Reader
-    requires { ⌜ length (now room) ≡ roomNeeded ⌝ }
-    ensures { λ x. ⌜ record { reader = x; room = now (room .exit) } ≡ markupTick (now (marks .entry)) r b (now (room .entry)) ⌝ }
-{
-    if chars::has(marks, b, chars::NAME_START) {
-        return begin(r, b, room);
-    }
-    if b == b'!' {
-        return modes::spell(r, Mode::Bang, 0, 2);
-    }
-    if b == b'/' {
-        return slashed(r);
-    }
-    if b == b'?' {
-        return modes::refuse(r, limits::INSTRUCTION);
-    }
-    if b < 128 {
-        return modes::refuse(r, MISPLACED);
-    }
-    if r.place == AFTER {
-        return modes::refuse(r, MISPLACED);
-    }
-    modes::refuse(r, limits::FOREIGN_NAME)
-}
-
-// The same at the very start of the text.
-fn first(marks: &[u8; 256], r: Reader, b: u8, room: &mut [u8]) -> Reader
-    requires { ⌜ length (now room) ≡ roomNeeded ⌝ }
-    ensures { λ x. ⌜ record { reader = x; room = now (room .exit) } ≡ firstTick (now (marks .entry)) r b (now (room .entry)) ⌝ }
-{
-    if b == b'?' {
-        return modes::spell(r, Mode::Prolog(Prolog::Xml), 0, 2);
-    }
-    markup(marks, r, b, room)
 }
