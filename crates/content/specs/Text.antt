@@ -20,7 +20,7 @@ use Rattle.modes.specs.declared.Mode.{Mode}
 use Rattle.modes.specs.declared.Mode.the-variants as mode
 use Rattle.modes.specs.declared.Gives.the-variants as gives
 use Rattle.modes.specs.declared.Reader.{Reader}
-use Rattle.modes.specs.Moves.{goTo, refuseWith, spellOn, goAside, giveOut}
+use Rattle.modes.specs.Moves.{goTo, stayIn, refuseWith, spellOn, goAside, giveOut}
 
 -- the place after the document element
 abbrev pub afterPlace : ℕ
@@ -36,7 +36,7 @@ charTick r b =
 
 unfoldable pub dataTick : List ℕ → Reader → ℕ → Mode → Bool → Reader
 dataTick M r b bracket shut =
-    when (marked M b 1) (goTo r mode.Data)
+    when (marked M b 1) (stayIn r mode.Data)
     (when (eqb b 60) (goTo r mode.Markup)
     (when (eqb b 38) (goAside r mode.Amper 0 mode.Data)
     (when (eqb b 93) (goTo r bracket) (when (eqb b 62) (when shut (refuseWith r misplaced) (goTo r mode.Data)) (wideTick r b mode.Data)))))
@@ -52,7 +52,7 @@ bangTick r b =
     (when (eqb (r .n) 2) (when (eqb b 91) (refuseWith r cdata) (when (eqb b 68) (refuseWith r doctype) (refuseWith r misplaced))) (refuseWith r misplaced)))
 
 unfoldable pub noteTick : List ℕ → Reader → ℕ → Mode → Reader
-noteTick M r b dash = when (marked M b 8) (goTo r mode.Note) (when (eqb b 45) (goTo r dash) (wideTick r b mode.Note))
+noteTick M r b dash = when (marked M b 8) (stayIn r mode.Note) (when (eqb b 45) (goTo r dash) (wideTick r b mode.Note))
 
 unfoldable pub remarkedTick : Reader → ℕ → Reader
 remarkedTick r b =

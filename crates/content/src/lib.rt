@@ -38,7 +38,7 @@ pub fn data(marks: &[u8; 256], r: Reader, b: u8, bracket: Mode, shut: bool) -> R
     ensures { λ x. ⌜ x ≡ dataTick (now (marks .entry)) r b bracket shut ⌝ }
 {
     if chars::has(marks, b, chars::PLAIN) {
-        return modes::go(r, Mode::Data);
+        return modes::stay(r, Mode::Data);
     }
     if b == b'<' {
         return modes::go(r, Mode::Markup);
@@ -90,7 +90,7 @@ pub fn note(marks: &[u8; 256], r: Reader, b: u8, dash: Mode) -> Reader
     ensures { λ x. ⌜ x ≡ noteTick (now (marks .entry)) r b dash ⌝ }
 {
     if chars::has(marks, b, chars::NO_DASH) {
-        return modes::go(r, Mode::Note);
+        return modes::stay(r, Mode::Note);
     }
     if b == b'-' {
         return modes::go(r, dash);

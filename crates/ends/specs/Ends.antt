@@ -17,7 +17,7 @@ use Rattle.slots.specs.Slots.{baseOf, lengthIn}
 use Rattle.modes.specs.declared.Mode.the-variants as mode
 use Rattle.modes.specs.declared.Gives.the-variants as gives
 use Rattle.modes.specs.declared.Reader.{Reader}
-use Rattle.modes.specs.Moves.{goTo, refuseWith, spellOn, giveOut}
+use Rattle.modes.specs.Moves.{stayIn, refuseWith, spellOn, giveOut}
 use Rattle.content.specs.Text.{afterPlace}
 
 unfoldable pub emptiedTick : Reader → ℕ → Reader
@@ -29,7 +29,7 @@ unfoldable pub closed : Reader → Reader
 closed r = when (leb (r .place) 1) (giveOut r gives.Close mode.Around afterPlace) (giveOut r gives.Close mode.Data (r .place - 1))
 
 unfoldable pub endedTick : List ℕ → Reader → ℕ → Reader
-endedTick M r b = when (marked M b 64) (goTo r mode.Ended) (when (eqb b 62) (closed r) (refuseWith r misplaced))
+endedTick M r b = when (marked M b 64) (stayIn r mode.Ended) (when (eqb b 62) (closed r) (refuseWith r misplaced))
 
 unfoldable pub wholeTick : List ℕ → Reader → ℕ → Reader
 wholeTick M r b = when (marked M b 16) (refuseWith r otherEnd) (when (leb 128 b) (refuseWith r otherEnd) (endedTick M r b))
@@ -38,4 +38,4 @@ unfoldable pub endTick : List ℕ → Reader → ℕ → List ℕ → Reader
 endTick M r b R =
     when (eqb (r .place) 0) (refuseWith r misplaced)
     (when (leb (lengthIn R (r .place - 1)) (r .n)) (wholeTick M r b)
-    (when (eqb b (getD R (baseOf (r .place - 1) + r .n) 0)) (spellOn r mode.End 0 (r .n + 1)) (refuseWith r otherEnd)))
+    (when (eqb b (getD R (baseOf (r .place - 1) + r .n) 0)) (spellOn r mode.End (r .row) (r .n + 1)) (refuseWith r otherEnd)))

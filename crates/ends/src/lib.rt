@@ -1,6 +1,10 @@
 // One byte of an end tag, or the '>' of an empty one: the reader after it.
-use limits::{MISPLACED, OTHER_END};
-use modes::{Gives, Mode, Reader, AFTER};
+use limits::MISPLACED;
+use limits::OTHER_END;
+use modes::AFTER;
+use modes::Gives;
+use modes::Mode;
+use modes::Reader;
 ghost use mathlib.Core.Path.{_≡_};
 ghost use lib.ListN.{length};
 ghost use Rattle.slots.specs.Slots.{roomNeeded};
@@ -34,7 +38,7 @@ pub fn ended(marks: &[u8; 256], r: Reader, b: u8) -> Reader
     ensures { λ x. ⌜ x ≡ endedTick (now (marks .entry)) r b ⌝ }
 {
     if chars::has(marks, b, chars::BLANK) {
-        return modes::go(r, Mode::Ended);
+        return modes::stay(r, Mode::Ended);
     }
     if b == b'>' {
         return closes(r);
@@ -70,7 +74,7 @@ pub fn end(marks: &[u8; 256], r: Reader, b: u8, room: &[u8]) -> Reader
     }
     let want = slots::get(room, slot, r.n as usize);
     if b == want {
-        return modes::spell(r, Mode::End, 0, r.n + 1);
+        return modes::spell(r, Mode::End, r.row, r.n + 1);
     }
     modes::refuse(r, OTHER_END)
 }

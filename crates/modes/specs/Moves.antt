@@ -1,6 +1,6 @@
 -- The reader's moves.
 --
---   goTo r m               on in the mode m
+--   goTo r m               on in the mode m;  stayIn r m: with nothing else changed
 --   refuseWith r x         stopped by the refusal x, where it stands
 --   spellOn r m row n      on in a spelling, n bytes of which were read
 --   goAside r m n k        on in the mode m, to come back to k
@@ -17,6 +17,9 @@ use Rattle.modes.specs.declared.Reader.{Reader}
 
 abbrev pub goTo : Reader → Mode → Reader
 goTo r m = record { mode = m; back = r .back; n = 0; row = r .row; count = r .count; gives = Nothing; refusal = 0; place = r .place }
+
+abbrev pub stayIn : Reader → Mode → Reader
+stayIn r m = record { mode = m; back = r .back; n = r .n; row = r .row; count = r .count; gives = Nothing; refusal = 0; place = r .place }
 
 abbrev pub refuseWith : Reader → ℕ → Reader
 refuseWith r x =

@@ -1,6 +1,6 @@
 // Where the reader stands in a text, in small numbers, and its moves from there.
 ghost use mathlib.Core.Path.{_≡_};
-ghost use Rattle.modes.specs.Moves.{goTo, refuseWith, spellOn, goAside, giveOut, countTo};
+ghost use Rattle.modes.specs.Moves.{goTo, stayIn, refuseWith, spellOn, goAside, giveOut, countTo};
 
 // What was read last in the prolog, but for markup. Beside each, what may come next.
 pub enum Prolog {
@@ -105,6 +105,23 @@ pub fn go(r: Reader, mode: Mode) -> Reader
         mode,
         back,
         n: 0,
+        row: r.row,
+        count: r.count,
+        gives: Gives::Nothing,
+        refusal: 0,
+        place: r.place,
+    }
+}
+
+// On in another mode or the same, with nothing else changed.
+pub fn stay(r: Reader, mode: Mode) -> Reader
+    ensures { λ x. ⌜ x ≡ stayIn r mode ⌝ }
+{
+    let back = r.back;
+    Reader {
+        mode,
+        back,
+        n: r.n,
         row: r.row,
         count: r.count,
         gives: Gives::Nothing,

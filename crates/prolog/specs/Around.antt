@@ -17,10 +17,10 @@ use Rattle.modes.specs.declared.Mode.{Mode}
 use Rattle.modes.specs.declared.Mode.the-variants as mode
 use Rattle.modes.specs.declared.Prolog.the-variants as prolog
 use Rattle.modes.specs.declared.Reader.{Reader}
-use Rattle.modes.specs.Moves.{goTo, refuseWith, spellOn, countTo}
+use Rattle.modes.specs.Moves.{goTo, stayIn, refuseWith, spellOn, countTo}
 
 unfoldable pub around : List ℕ → Reader → ℕ → Mode → Reader
-around M r b next = when (marked M b 64) (goTo r mode.Around) (when (eqb b 60) (goTo r next) (refuseWith r misplaced))
+around M r b next = when (marked M b 64) (stayIn r mode.Around) (when (eqb b 60) (goTo r next) (refuseWith r misplaced))
 
 unfoldable pub startTick : List ℕ → Reader → ℕ → Reader
 startTick M r b = when (eqb b 239) (spellOn r (mode.Prolog prolog.Mark) 0 1) (around M r b mode.First)

@@ -18,7 +18,7 @@ pub fn around(marks: &[u8; 256], r: Reader, b: u8, next: Mode) -> Reader
     ensures { λ x. ⌜ x ≡ around (now (marks .entry)) r b next ⌝ }
 {
     if chars::has(marks, b, BLANK) {
-        return modes::go(r, Mode::Around);
+        return modes::stay(r, Mode::Around);
     }
     if b == b'<' {
         return modes::go(r, next);

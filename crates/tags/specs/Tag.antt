@@ -23,12 +23,12 @@ use Rattle.modes.specs.declared.Mode.{Mode}
 use Rattle.modes.specs.declared.Mode.the-variants as mode
 use Rattle.modes.specs.declared.Gives.the-variants as gives
 use Rattle.modes.specs.declared.Reader.{Reader}
-use Rattle.modes.specs.Moves.{goTo, refuseWith, spellOn, goAside, giveOut, countTo}
+use Rattle.modes.specs.Moves.{goTo, stayIn, refuseWith, spellOn, goAside, giveOut, countTo}
 use Rattle.content.specs.Text.{wideTick}
 use Rattle.tags.specs.Markup.{Ticked, kept}
 
 unfoldable pub nameByte : Reader → ℕ → List ℕ → ℕ → Mode → Ticked
-nameByte r b R slot m = when (leb nameLimit (r .n)) (kept (refuseWith r longName) R) (kept (spellOn r m 0 (r .n + 1)) (set R (baseOf slot + r .n) b))
+nameByte r b R slot m = when (leb nameLimit (r .n)) (kept (refuseWith r longName) R) (kept (spellOn r m (r .row) (r .n + 1)) (set R (baseOf slot + r .n) b))
 
 unfoldable pub tagEnd : Reader → ℕ → Reader
 tagEnd r b =
@@ -48,7 +48,7 @@ tagTick M r b R =
     (when (eqb b 47) (kept (tagEnd r b) (measured r R (r .place))) (kept (refuseWith r misplaced) R)))))
 
 unfoldable pub taggedTick : List ℕ → Reader → ℕ → Reader
-taggedTick M r b = when (marked M b 64) (goTo r mode.Gap) (tagEnd r b)
+taggedTick M r b = when (marked M b 64) (stayIn r mode.Gap) (tagEnd r b)
 
 unfoldable pub attBegun : Reader → ℕ → List ℕ → Ticked
 attBegun r b R =
@@ -58,7 +58,7 @@ attBegun r b R =
 unfoldable pub gapTick : List ℕ → Reader → ℕ → List ℕ → Ticked
 gapTick M r b R =
     when (marked M b 32) (attBegun r b R)
-    (when (marked M b 64) (kept (goTo r mode.Gap) R) (when (leb 128 b) (kept (refuseWith r foreignName) R) (kept (tagEnd r b) R)))
+    (when (marked M b 64) (kept (stayIn r mode.Gap) R) (when (leb 128 b) (kept (refuseWith r foreignName) R) (kept (tagEnd r b) R)))
 
 unfoldable pub namedTick : Reader → List ℕ → Mode → Ticked
 namedTick r R m =
@@ -72,11 +72,11 @@ attTick M r b R =
     (when (eqb b 61) (namedTick r R mode.Value) (when (leb 128 b) (kept (refuseWith r foreignName) R) (kept (refuseWith r misplaced) R))))
 
 unfoldable pub equalsTick : List ℕ → Reader → ℕ → Reader
-equalsTick M r b = when (marked M b 64) (goTo r mode.Equals) (when (eqb b 61) (goTo r mode.Value) (refuseWith r misplaced))
+equalsTick M r b = when (marked M b 64) (stayIn r mode.Equals) (when (eqb b 61) (goTo r mode.Value) (refuseWith r misplaced))
 
 unfoldable pub valueTick : List ℕ → Reader → ℕ → Reader
 valueTick M r b =
-    when (marked M b 64) (goTo r mode.Value)
+    when (marked M b 64) (stayIn r mode.Value)
     (when (eqb b 34) (goTo r mode.Double) (when (eqb b 39) (goTo r mode.Single) (refuseWith r misplaced)))
 
 unfoldable pub attEnded : Reader → Reader
@@ -84,6 +84,6 @@ attEnded r = when (leb attributeLimit (r .count)) (refuseWith r misplaced) (coun
 
 unfoldable pub quotedTick : List ℕ → Reader → ℕ → ℕ → ℕ → Reader
 quotedTick M r b mark q =
-    when (marked M b mark) (goTo r (r .mode))
+    when (marked M b mark) (stayIn r (r .mode))
     (when (eqb b q) (attEnded r)
     (when (eqb b 38) (goAside r mode.Amper 0 (r .mode)) (when (eqb b 60) (refuseWith r misplaced) (wideTick r b (r .mode)))))

@@ -88,7 +88,7 @@ fn name_byte(r: Reader, b: u8, room: &mut [u8], slot: usize, mode: Mode) -> Read
         return modes::refuse(r, limits::LONG_NAME);
     }
     slots::put(room, slot, n, b);
-    modes::spell(r, mode, 0, r.n + 1)
+    modes::spell(r, mode, r.row, r.n + 1)
 }
 
 // The end of a start tag, or the '/' of an empty one.
@@ -139,7 +139,7 @@ pub fn tagged(marks: &[u8; 256], r: Reader, b: u8) -> Reader
     ensures { λ x. ⌜ x ≡ taggedTick (now (marks .entry)) r b ⌝ }
 {
     if chars::has(marks, b, BLANK) {
-        return modes::go(r, Mode::Gap);
+        return modes::stay(r, Mode::Gap);
     }
     tag_end(r, b)
 }
@@ -166,7 +166,7 @@ pub fn gap(marks: &[u8; 256], r: Reader, b: u8, room: &mut [u8]) -> Reader
         return attribute_begins(r, b, room);
     }
     if chars::has(marks, b, BLANK) {
-        return modes::go(r, Mode::Gap);
+        return modes::stay(r, Mode::Gap);
     }
     if 128 <= b {
         return modes::refuse(r, limits::FOREIGN_NAME);
@@ -220,7 +220,7 @@ pub fn equals(marks: &[u8; 256], r: Reader, b: u8) -> Reader
     ensures { λ x. ⌜ x ≡ equalsTick (now (marks .entry)) r b ⌝ }
 {
     if chars::has(marks, b, BLANK) {
-        return modes::go(r, Mode::Equals);
+        return modes::stay(r, Mode::Equals);
     }
     if b == b'=' {
         return modes::go(r, Mode::Value);
@@ -233,7 +233,7 @@ pub fn value(marks: &[u8; 256], r: Reader, b: u8) -> Reader
     ensures { λ x. ⌜ x ≡ valueTick (now (marks .entry)) r b ⌝ }
 {
     if chars::has(marks, b, BLANK) {
-        return modes::go(r, Mode::Value);
+        return modes::stay(r, Mode::Value);
     }
     if b == b'"' {
         return modes::go(r, Mode::Double);
@@ -260,7 +260,7 @@ pub fn quoted(marks: &[u8; 256], r: Reader, b: u8, mark: u8, quote: u8) -> Reade
 {
     let mode = r.mode;
     if chars::has(marks, b, mark) {
-        return modes::go(r, mode);
+        return modes::stay(r, mode);
     }
     if b == quote {
         return attribute_ends(r);

@@ -1,5 +1,6 @@
 // One byte of text: the reader after it, or refused, and what stands in its room then.
-use modes::{Mode, Reader};
+use modes::Mode;
+use modes::Reader;
 ghost use mathlib.Core.Path.{_≡_};
 ghost use lib.ListN.{length};
 ghost use Rattle.slots.specs.Slots.{roomNeeded};

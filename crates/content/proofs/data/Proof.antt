@@ -8,15 +8,15 @@ use Rattle.content.proofs.data.Tie as tie
 has-requires : tie.Need-has-requires
 has-requires c κs = search needs
 
-go-requires : tie.Need-go-requires
-go-requires c κs = search needs
+stay-requires : tie.Need-stay-requires
+stay-requires c κs = search needs
 
 returns : tie.Need-returns
 unfolding dataTick
 returns c = search tests depth 12
 
-go-requires-2 : tie.Need-go-requires-2
-go-requires-2 c κs = search needs
+go-requires : tie.Need-go-requires
+go-requires c κs = search needs
 
 returns-2 : tie.Need-returns-2
 unfolding dataTick
@@ -29,8 +29,8 @@ returns-3 : tie.Need-returns-3
 unfolding dataTick
 returns-3 c = search tests depth 12
 
-go-requires-3 : tie.Need-go-requires-3
-go-requires-3 c κs = search needs
+go-requires-2 : tie.Need-go-requires-2
+go-requires-2 c κs = search needs
 
 returns-4 : tie.Need-returns-4
 unfolding dataTick
@@ -43,8 +43,8 @@ returns-5 : tie.Need-returns-5
 unfolding dataTick
 returns-5 c = search tests depth 12
 
-go-requires-4 : tie.Need-go-requires-4
-go-requires-4 c κs = search needs
+go-requires-3 : tie.Need-go-requires-3
+go-requires-3 c κs = search needs
 
 returns-6 : tie.Need-returns-6
 unfolding dataTick
@@ -62,17 +62,17 @@ data-spec =
     tie.close
     (tie.spec
     has-requires
-    go-requires
+    stay-requires
     returns
-    go-requires-2
+    go-requires
     returns-2
     aside-requires
     returns-3
-    go-requires-3
+    go-requires-2
     returns-4
     refuse-requires
     returns-5
-    go-requires-4
+    go-requires-3
     returns-6
     wide-requires
     returns-7)

@@ -8,15 +8,15 @@ use Rattle.content.proofs.note.Tie as tie
 has-requires : tie.Need-has-requires
 has-requires c κs = search needs
 
-go-requires : tie.Need-go-requires
-go-requires c κs = search needs
+stay-requires : tie.Need-stay-requires
+stay-requires c κs = search needs
 
 returns : tie.Need-returns
 unfolding noteTick
 returns c = search tests depth 12
 
-go-requires-2 : tie.Need-go-requires-2
-go-requires-2 c κs = search needs
+go-requires : tie.Need-go-requires
+go-requires c κs = search needs
 
 returns-2 : tie.Need-returns-2
 unfolding noteTick
@@ -32,4 +32,4 @@ returns-3 c = search tests depth 12
 pub note-spec : {M : Type 1} → statement M
 note-spec =
     tie.close
-    (tie.spec has-requires go-requires returns go-requires-2 returns-2 wide-requires returns-3)
+    (tie.spec has-requires stay-requires returns go-requires returns-2 wide-requires returns-3)

@@ -8,8 +8,8 @@ use Rattle.ends.proofs.ended.Tie as tie
 has-requires : tie.Need-has-requires
 has-requires c κs = search needs
 
-go-requires : tie.Need-go-requires
-go-requires c κs = search needs
+stay-requires : tie.Need-stay-requires
+stay-requires c κs = search needs
 
 returns : tie.Need-returns
 unfolding endedTick
@@ -32,4 +32,11 @@ returns-3 c = search tests depth 12
 pub ended-spec : {M : Type 1} → statement M
 ended-spec =
     tie.close
-    (tie.spec has-requires go-requires returns closes-requires returns-2 refuse-requires returns-3)
+    (tie.spec
+    has-requires
+    stay-requires
+    returns
+    closes-requires
+    returns-2
+    refuse-requires
+    returns-3)

@@ -8,15 +8,15 @@ use Rattle.prolog.proofs.around.Tie as tie
 has-requires : tie.Need-has-requires
 has-requires c κs = search needs
 
-go-requires : tie.Need-go-requires
-go-requires c κs = search needs
+stay-requires : tie.Need-stay-requires
+stay-requires c κs = search needs
 
 returns : tie.Need-returns
 unfolding around
 returns c = search tests depth 12
 
-go-requires-2 : tie.Need-go-requires-2
-go-requires-2 c κs = search needs
+go-requires : tie.Need-go-requires
+go-requires c κs = search needs
 
 returns-2 : tie.Need-returns-2
 unfolding around
@@ -32,4 +32,4 @@ returns-3 c = search tests depth 12
 pub around-spec : {M : Type 1} → statement M
 around-spec =
     tie.close
-    (tie.spec has-requires go-requires returns go-requires-2 returns-2 refuse-requires returns-3)
+    (tie.spec has-requires stay-requires returns go-requires returns-2 refuse-requires returns-3)

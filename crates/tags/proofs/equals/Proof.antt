@@ -9,15 +9,15 @@ use Rattle.tags.proofs.equals.Tie as tie
 has-requires : tie.Need-has-requires
 has-requires c κs = search needs
 
-go-requires : tie.Need-go-requires
-go-requires c κs = search needs
+stay-requires : tie.Need-stay-requires
+stay-requires c κs = search needs
 
 returns : tie.Need-returns
 unfolding equalsTick
 returns c = search (tests, found) depth 12
 
-go-requires-2 : tie.Need-go-requires-2
-go-requires-2 c κs = search needs
+go-requires : tie.Need-go-requires
+go-requires c κs = search needs
 
 returns-2 : tie.Need-returns-2
 unfolding equalsTick
@@ -33,4 +33,4 @@ returns-3 c = search (tests, found) depth 12
 pub equals-spec : {M : Type 1} → statement M
 equals-spec =
     tie.close
-    (tie.spec has-requires go-requires returns go-requires-2 returns-2 refuse-requires returns-3)
+    (tie.spec has-requires stay-requires returns go-requires returns-2 refuse-requires returns-3)

@@ -22,8 +22,8 @@ returns c = search (tests, found) depth 12
 has-requires-2 : tie.Need-has-requires-2
 has-requires-2 c κs = search needs
 
-go-requires : tie.Need-go-requires
-go-requires c κs = search needs
+stay-requires : tie.Need-stay-requires
+stay-requires c κs = search needs
 
 returns-2 : tie.Need-returns-2
 unfolding gapTick
@@ -52,7 +52,7 @@ gap-spec =
     same-length
     returns
     has-requires-2
-    go-requires
+    stay-requires
     returns-2
     refuse-requires
     returns-3

@@ -9,8 +9,8 @@ use Rattle.tags.proofs.quoted.Tie as tie
 has-requires : tie.Need-has-requires
 has-requires c κs = search needs
 
-go-requires : tie.Need-go-requires
-go-requires c κs = search needs
+stay-requires : tie.Need-stay-requires
+stay-requires c κs = search needs
 
 returns : tie.Need-returns
 unfolding quotedTick
@@ -49,7 +49,7 @@ quoted-spec =
     tie.close
     (tie.spec
     has-requires
-    go-requires
+    stay-requires
     returns
     attribute-ends-requires
     returns-2

@@ -9,8 +9,8 @@ use Rattle.tags.proofs.tagged.Tie as tie
 has-requires : tie.Need-has-requires
 has-requires c κs = search needs
 
-go-requires : tie.Need-go-requires
-go-requires c κs = search needs
+stay-requires : tie.Need-stay-requires
+stay-requires c κs = search needs
 
 returns : tie.Need-returns
 unfolding taggedTick
@@ -24,4 +24,4 @@ unfolding taggedTick
 returns-2 c = search (tests, found) depth 12
 
 pub tagged-spec : {M : Type 1} → statement M
-tagged-spec = tie.close (tie.spec has-requires go-requires returns tag-end-requires returns-2)
+tagged-spec = tie.close (tie.spec has-requires stay-requires returns tag-end-requires returns-2)

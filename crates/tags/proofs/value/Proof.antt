@@ -9,22 +9,22 @@ use Rattle.tags.proofs.value.Tie as tie
 has-requires : tie.Need-has-requires
 has-requires c κs = search needs
 
-go-requires : tie.Need-go-requires
-go-requires c κs = search needs
+stay-requires : tie.Need-stay-requires
+stay-requires c κs = search needs
 
 returns : tie.Need-returns
 unfolding valueTick
 returns c = search (tests, found) depth 12
 
-go-requires-2 : tie.Need-go-requires-2
-go-requires-2 c κs = search needs
+go-requires : tie.Need-go-requires
+go-requires c κs = search needs
 
 returns-2 : tie.Need-returns-2
 unfolding valueTick
 returns-2 c = search (tests, found) depth 12
 
-go-requires-3 : tie.Need-go-requires-3
-go-requires-3 c κs = search needs
+go-requires-2 : tie.Need-go-requires-2
+go-requires-2 c κs = search needs
 
 returns-3 : tie.Need-returns-3
 unfolding valueTick
@@ -42,11 +42,11 @@ value-spec =
     tie.close
     (tie.spec
     has-requires
-    go-requires
+    stay-requires
     returns
-    go-requires-2
+    go-requires
     returns-2
-    go-requires-3
+    go-requires-2
     returns-3
     refuse-requires
     returns-4)
