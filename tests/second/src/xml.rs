@@ -1,11 +1,12 @@
 //! XML text by docs/XML.md: the whole text is read by a function for each production, with W3C's number and name.
 //!
 //! [`read`] gives the events of a text with their names spelled, and its refusal if it has one. [`names`] is the list that the
-//! names get their numbers from, and [`chars`] says which bytes are what.
+//! names get their numbers from, [`chars`] says which bytes are what, and [`batch`] reads many texts from one file.
 //!
 //! A function stands before what it reads and leaves the reader after it. Where a byte comes that it cannot read, it gives the
 //! refusal of that byte, and where the text ends before it is done, refusal 44.
 
+pub mod batch;
 pub mod chars;
 pub mod names;
 

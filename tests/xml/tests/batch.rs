@@ -1,8 +1,9 @@
 //! A batch is read as it is written, and only the right answers to it are taken for right.
 
 use random::chance::Chance;
+use second::xml::batch::{answer, cases, Case};
 use second::xml::names::Names;
-use xml::batch::{answer, cases, cut, cuts, judge, Case};
+use xml::batch::{cut, cuts, judge};
 use xml::cases::{damaged, documents};
 use xml::words;
 

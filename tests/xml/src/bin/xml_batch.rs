@@ -2,17 +2,17 @@
 //!
 //!     xml_batch texts [--seed N] [--cases N] FOLDER
 //!     xml_batch cuts [--seed N] [--cases N] FOLDER
-//!     xml_batch answers FOLDER
 //!     xml_batch check FOLDER OUTPUT
 
 use random::chance::Chance;
+use second::xml::batch::{cases, Case};
 use second::xml::names::Names;
 use second::xml::read;
 use std::fs::{create_dir_all, write};
-use std::io::{stdout, BufWriter, Result, Write};
+use std::io::Result;
 use std::path::{Path, PathBuf};
 use std::process::exit;
-use xml::batch::{answer, cases, cut, cuts, judge, Case, Wrong};
+use xml::batch::{cut, cuts, judge, Wrong};
 use xml::cases::{damaged, documents};
 use xml::{stems, words};
 
@@ -21,8 +21,6 @@ xml_batch texts [--seed N] [--cases N] FOLDER
   writes cases.bin, names.txt and said.txt, which has a line for each text with what the second program says of it
 xml_batch cuts [--seed N] [--cases N] FOLDER
   writes cases.bin and names.txt, each text in blocks of several lengths, and says how many cases these are
-xml_batch answers FOLDER
-  writes to standard output what a reader must answer to the cases in FOLDER
 xml_batch check FOLDER OUTPUT
   compares OUTPUT, what a reader wrote for FOLDER, with the second program
   --seed N   which texts (1)
@@ -91,23 +89,8 @@ fn shown(records: &[u8]) -> String {
     format!("{}{}", if skipped > 0 { ".. " } else { "" }, words[skipped..].join(" "))
 }
 
-/// The cases in the folder, and its list.
-fn read_batch(folder: &Path) -> Result<(Vec<u8>, Vec<u8>)> {
-    Ok((std::fs::read(folder.join("cases.bin"))?, std::fs::read(folder.join("names.txt"))?))
-}
-
-fn write_answers(folder: &Path) -> Result<()> {
-    let (batch, list) = read_batch(folder)?;
-    let names = Names::read(&list).expect("the list is in order");
-    let mut out = BufWriter::new(stdout().lock());
-    for case in cases(&batch) {
-        out.write_all(&answer(case.text, &names))?;
-    }
-    out.flush()
-}
-
 fn check(folder: &Path, output: &Path) -> Result<bool> {
-    let (batch, list) = read_batch(folder)?;
+    let (batch, list) = (std::fs::read(folder.join("cases.bin"))?, std::fs::read(folder.join("names.txt"))?);
     let names = Names::read(&list).expect("the list is in order");
     let judged = judge(&batch, &names, &std::fs::read(output)?);
     for Wrong { number, case, must, came } in &judged.first {
@@ -130,7 +113,6 @@ fn main() -> Result<()> {
     match (task.as_str(), wish(arguments)) {
         ("texts", Some(wish)) if wish.paths.len() == 1 => write_texts(&wish, &wish.paths[0]),
         ("cuts", Some(wish)) if wish.paths.len() == 1 => write_cuts(&wish, &wish.paths[0]),
-        ("answers", Some(wish)) if wish.paths.len() == 1 => write_answers(&wish.paths[0]),
         ("check", Some(wish)) if wish.paths.len() == 2 => {
             let same = check(&wish.paths[0], &wish.paths[1])?;
             exit(i32::from(!same));
