@@ -1,5 +1,5 @@
-/* What libxml2 says of each text of a batch (second/src/xml/batch.rs): a line with its elements and the comments inside the document element, as the second program
-   writes them, and 'end', or 'refused' if it is not well-formed. Namespaces are off, and so are the limits of its own.
+/* What libxml2 says of each text of a batch (second/src/xml/batch.rs): a line with its elements and the comments inside the document element, as the second
+   program writes them, and 'end', or 'refused' if it is not well-formed. Namespaces are off, and so are the limits of its own.
        libxml2 < cases.bin */
 #include <libxml/parserInternals.h>
 #include <stdio.h>

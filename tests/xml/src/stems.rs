@@ -4,14 +4,15 @@ use second::xml::{MOST_ATTRIBUTES, MOST_NAME_BYTES};
 use second::MOST_OPEN;
 
 /// Documents in which every production is begun and ended; each part of them is a stem.
-const WHOLE: [&str; 7] = [
+const WHOLE: [&str; 8] = [
     "\u{feff}<?xml version='1.0' encoding=\"UTF-8\" standalone='yes' ?><!-- -x--> <a/> <!--y-->\n",
     "<?xml\tversion = \"1.0\"\nencoding = 'utf-8'?>\r<_ :='' />",
     "<?xml version='1.0' standalone=\"no\"?><a></a>",
     "<ab c='&lt;]>' d = \"&quot;'\" c1=''>x]]y]&gt;<!--<&]]>--><ab/></ab >",
     "<a>&amp;&apos;-<b:1.-_></b:1.-_></a>",
     "<a b='\u{e9}\u{800}\u{d7ff}'>\u{7ff}\u{fffd}\u{10000}<!--\u{e000}\u{40000}-->\u{10ffff}</a>",
-    "<!--\u{fff}--><a \n\tb\r=\n\"\"\t/>",
+    "\t<!--\u{fff}--><a \n\tb\r=\n\"\"\t/>",
+    "\u{feff}\r<a/>",
 ];
 
 /// At the limits: a name of 64 bytes, one that spells an earlier one, all attributes of a tag, all elements that may be open.
