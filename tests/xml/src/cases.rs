@@ -36,7 +36,11 @@ pub fn damaged(seed: u64) -> impl Iterator<Item = (Damage, Case)> {
     (0..).map(move |place| {
         let chance = &mut Chance::new(!seed, place);
         let (case, other) = (case(chance, place), case(chance, place / 2));
-        let first = Damage::ALL[place as usize % Damage::ALL.len()];
+        // One in a hundred in UTF-16: such a text is refused at its first bytes.
+        let first = match place % 100 {
+            50 => Damage::Encoded,
+            _ => Damage::ALL[place as usize % (Damage::ALL.len() - 1)],
+        };
         let text = first.done(chance, &case.text, &other.text);
         (first, Case { text: damaged_more(chance, text, &other.text), ..case })
     })

@@ -59,10 +59,12 @@ pub enum Damage {
     Grafted,
     LeftOut,
     Declared,
+    /// In UTF-16, with its mark or without.
+    Encoded,
 }
 
 impl Damage {
-    pub const ALL: [Damage; 9] = [
+    pub const ALL: [Damage; 10] = [
         Damage::Dropped,
         Damage::Doubled,
         Damage::Swapped,
@@ -72,12 +74,14 @@ impl Damage {
         Damage::Grafted,
         Damage::LeftOut,
         Damage::Declared,
+        Damage::Encoded,
     ];
 
     /// The text with this done to it; `other` is what pieces are taken from.
     pub fn done(self, chance: &mut Chance, text: &[u8], other: &[u8]) -> Vec<u8> {
         let place = place(chance, text);
-        let some = place..text.len().min(place + *chance.pick(&[1, 1, 1, 2, 8]));
+        let least = if self == Damage::Swapped { 2 } else { 1 };
+        let some = place..text.len().min(place + least.max(*chance.pick(&[1, 1, 1, 2, 8])));
         let around = |middle: &[u8]| [&text[..some.start], middle, &text[some.end..]].concat();
         match self {
             Damage::Dropped => around(b""),
@@ -89,6 +93,7 @@ impl Damage {
             Damage::Grafted => put_in(text, place, piece(chance, other)),
             Damage::LeftOut => left_out(chance, text),
             Damage::Declared => declared(chance, text),
+            Damage::Encoded => encoded(chance, text),
         }
     }
 }
@@ -134,6 +139,14 @@ fn left_out(chance: &mut Chance, text: &[u8]) -> Vec<u8> {
         _ => *chance.pick(&ends),
     };
     put_in(text, place, chance.pick(&LEFT_OUT).as_bytes())
+}
+
+fn encoded(chance: &mut Chance, text: &[u8]) -> Vec<u8> {
+    let spell = if chance.percent(50) { u16::to_le_bytes } else { u16::to_be_bytes };
+    let text = String::from_utf8_lossy(text);
+    let bare = text.trim_start_matches('\u{feff}');
+    let mark = if chance.percent(70) { "\u{feff}" } else { "" };
+    mark.encode_utf16().chain(bare.encode_utf16()).flat_map(spell).collect()
 }
 
 /// The text with another declaration at its start.
