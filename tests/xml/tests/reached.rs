@@ -31,7 +31,7 @@ fn documents_are_taken_but_past_a_limit() {
 fn damaged_documents_get_every_refusal() {
     let counts = refusals(damaged(1).take(TEXTS).map(|(_, case)| case.text));
     assert_eq!(counts.keys().copied().collect::<Vec<_>>(), [&[0][..], &(30..=44).collect::<Vec<_>>()].concat());
-    assert!(counts.values().all(|count| *count >= 10), "{counts:?}");
+    assert!(counts.values().all(|count| *count >= 5), "{counts:?}");
     assert!(counts[&0] < TEXTS / 4, "{counts:?}");
 }
 
@@ -42,7 +42,8 @@ fn every_damage_gets_some_refusals() {
     assert_eq!(texts.len(), Damage::ALL.len());
     for (damage, texts) in texts {
         let counts = refusals(texts.into_iter());
-        assert!(counts.len() > 5 || damage == Damage::Encoded && counts.contains_key(&30), "{damage:?}: {counts:?}");
+        let expected = if damage == Damage::Encoded { 1 } else { 4 };
+        assert!(counts.len() >= expected && counts.contains_key(&30), "{damage:?}: {counts:?}");
     }
 }
 
