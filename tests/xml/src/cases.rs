@@ -13,6 +13,8 @@ pub enum Kind {
     Small,
     Wide,
     Large,
+    /// Some thousand elements: mostly more than 64 KiB, so more than a reader is given at a time.
+    Huge,
     /// Deep nests, up to the depth that may be open and past it.
     Nest,
     /// One tag at a limit, or past it.
@@ -52,9 +54,10 @@ fn damaged_more(chance: &mut Chance, text: Vec<u8>, other: &[u8]) -> Vec<u8> {
     (0..more).fold(text, |text, _| chance.pick(&Damage::ALL).done(chance, &text, other))
 }
 
-/// In each 100, one is large and three are nests.
+/// In each 1,000 one is huge; in each 100, one is large and three are nests.
 fn case(chance: &mut Chance, place: u64) -> Case {
     let kind = match place % 100 {
+        0 if place % 1_000 == 500 => Kind::Huge,
         0 => Kind::Large,
         1..=3 => Kind::Nest,
         4..=13 => Kind::Edge,
@@ -69,6 +72,7 @@ fn case(chance: &mut Chance, place: u64) -> Case {
         Kind::Small | Kind::Edge => tree(chance, &names, 8),
         Kind::Wide => tree(chance, &names, 40),
         Kind::Large => tree(chance, &names, 200),
+        Kind::Huge => tree(chance, &names, 5_000),
         Kind::Nest => nest(chance, &names),
     };
     Case { kind, text: document(chance, &events, edge) }

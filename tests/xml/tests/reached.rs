@@ -99,6 +99,13 @@ fn documents_have_everything_that_is_read() {
 }
 
 #[test]
+fn some_texts_are_longer_than_a_block() {
+    let long = |case: &xml::cases::Case| case.text.len() > 65_536;
+    assert!(documents(1).take(TEXTS).filter(long).count() >= 10);
+    assert!(damaged(1).take(TEXTS).filter(|(_, case)| long(case)).count() >= 10);
+}
+
+#[test]
 fn nests_go_to_the_limit_and_past_it() {
     let mut deepest = BTreeMap::new();
     for case in documents(1).take(TEXTS).filter(|case| case.kind == Kind::Nest) {
