@@ -9,6 +9,8 @@
 //! [`query`] and [`records`] read the bytes, [`lent`] is what a caller lends with refusals 1 and 15, [`tree`] is the document
 //! so far with refusals 3 to 6, and [`answers`] holds what both forms answer, how it is written out and which refusals stop a
 //! session.
+//!
+//! [`xml`] reads XML text and its list of names by docs/XML.md, and makes events of it.
 
 pub mod answers;
 pub mod lent;
@@ -17,6 +19,7 @@ pub mod moments;
 pub mod query;
 pub mod records;
 pub mod tree;
+pub mod xml;
 
 /// "A session holds at most 256 open elements"
 pub const MOST_OPEN: usize = 256;
