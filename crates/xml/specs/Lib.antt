@@ -4,3 +4,4 @@ pub mod Bounds
 pub mod Refused
 pub mod Grammar
 pub mod Machine
+pub mod Unfinished

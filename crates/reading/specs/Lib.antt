@@ -1,0 +1,3 @@
+pub mod Left
+pub mod Account
+pub mod Cut
