@@ -5,6 +5,7 @@
 --   Due t es rs r fs k          after t one of rs must come: then fs are given and k is next, and else r is given
 --   Begun t es w rs r fs k      the same for either, with w behind t, and in w the first byte of what Reads
 --   After t es s                the account of the state s: t has been read, and es are its events
+--   partFirst k, partRest k     the name of a part of the declaration, taken apart
 --   plus es fs                  es ++ fs, and es itself where fs is none
 --
 -- Assumes nothing. NOT here: that each byte takes an account to an account (Account.Steps), that each account is reached (Leads.Accounts).
@@ -12,7 +13,7 @@ pub mod Grows
 pub mod Steps
 pub mod Sound
 use Prim.Native.Nat.{ℕ}
-use mathlib.Core.Path.{_≡_}
+use mathlib.Core.Path.{_≡_, refl}
 use mathlib.Core.Bool.{Bool, not}
 use mathlib.Core.Option.{Option, some}
 use mathlib.Core.List.{List, [], _∷_, _++_}
@@ -20,7 +21,7 @@ use lib.Dec.{T}
 use Rattle.xml.specs.Class.{Rows, word, waiting}
 use Rattle.xml.specs.Chars.{blank, utf8, quote}
 use Rattle.xml.specs.Refused.{misplaced, notChar, instruction, otherEntity, otherEnd}
-use Rattle.xml.specs.Grammar.{Limits, Ev, opens, closes, entities, Br, b0, among, Part, partName, partValues, mayFollow, Each, S, Eq, Remarked, Mark, Told}
+use Rattle.xml.specs.Grammar.{Limits, Ev, opens, closes, entities, Br, b0, among, Part, version, encoding, standalone, partName, partValues, mayFollow, Each, S, Eq, Remarked, Mark, Told}
 use Rattle.xml.specs.Machine.{Place, State, emptied, remarks, partRefusal}
 use Rattle.xml.specs.Unfinished.{At, Late, InName, InTag, InAtt, InValue, InDecl}
 use Rattle.reading.specs.Left.{left}
@@ -28,6 +29,23 @@ use Rattle.reading.specs.Left.{left}
 abbrev pub plus : List Ev → List Ev → List Ev
 plus es [] = es
 plus es (f ∷ fs) = es ++ (f ∷ fs)
+
+-- the first byte of a part's name, and the others
+abbrev pub partFirst : Part → ℕ
+partFirst version = 118
+partFirst encoding = 101
+partFirst standalone = 115
+
+abbrev pub partRest : Part → List ℕ
+partRest version = 101 ∷ 114 ∷ 115 ∷ 105 ∷ 111 ∷ 110 ∷ []
+partRest encoding = 110 ∷ 99 ∷ 111 ∷ 100 ∷ 105 ∷ 110 ∷ 103 ∷ []
+partRest standalone = 116 ∷ 97 ∷ 110 ∷ 100 ∷ 97 ∷ 108 ∷ 111 ∷ 110 ∷ 101 ∷ []
+
+pub name-parts : (k : Part) → partName k ≡ partFirst k ∷ partRest k
+unfolding partName
+name-parts version = refl
+name-parts encoding = refl
+name-parts standalone = refl
 
 module _ (L : Limits) where
   pub data Refers : List ℕ → List Ev → State → Type 0 where
@@ -89,13 +107,12 @@ module _ (L : Limits) where
       → Each blank v
       → Due (t ++ (u ++ (v ++ (63 ∷ [])))) [] (word (62 ∷ []) ∷ []) misplaced [] (State.at Place.before b0)
     name :
-      {o : Option Part} {k : Part} {b : ℕ} {t u v w : List ℕ}
+      {o : Option Part} {k : Part} {t u v : List ℕ}
       → Mark t
       → Told o u
       → T (mayFollow o k)
       → S v
-      → partName k ≡ b ∷ w
-      → Due (t ++ (u ++ (v ++ (b ∷ [])))) [] (word w ∷ []) misplaced [] (State.partEq o k)
+      → Due (t ++ (u ++ (v ++ (partFirst k ∷ [])))) [] (word (partRest k) ∷ []) misplaced [] (State.partEq o k)
     value :
       {o : Option Part} {k : Part} {t u : List ℕ} (q : Bool)
       → InDecl o k t

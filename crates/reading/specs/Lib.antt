@@ -1,3 +1,4 @@
 pub mod Left
 pub mod Account
 pub mod Cut
+pub mod Leads

@@ -28,20 +28,19 @@ use Rattle.xml.specs.Machine
 use Rattle.xml.specs.Machine.{Place, State, Outcome, refused, goes, Arms, stop, oneOf, lit, on, check, greater, partArm, toldEnd, apieceEnd, arms, settle, pick, step}
 use Rattle.xml.specs.Unfinished.{Late, At, before, inside, after, Fits, InName, tag, InTag, InAtt, attribute, InValue, quoting, InDecl, named}
 use Rattle.reading.specs.Left.{left, left-snoc, left-back, left-sound}
-use Rattle.reading.specs.Account.{plus, Refers, Reads, Due, Begun, After}
+use Rattle.reading.specs.Account.{plus, partFirst, partRest, name-parts, Refers, Reads, Due, Begun, After}
 use Rattle.reading.specs.Account.Grows.{moveAt, at-note, at-space-before, at-space-after, at-open, at-empty, at-close, at-refer, at-grow, tag-more}
 use Rattle.reading.specs.Account.Grows.{att-more, no-attributes, s-more, s-each, eq-more, value-char, value-ref, value-end, open-name, blank-late, greater-late}
 
 word-name : {L : Limits} {n : List ℕ} → Name L n → T (waiting (word n ∷ []))
 word-name (name x y z) = word-waiting _ _
 
-rest-waiting : (k : Part) (b : ℕ) (w : List ℕ) → partName k ≡ b ∷ w → T (waiting (word w ∷ []))
-unfolding partName
-rest-waiting version b w e = subst (λ z. T (waiting (word (mathlib.Core.List.tail z) ∷ []))) e (word-waiting _ _)
-rest-waiting encoding b w e = subst (λ z. T (waiting (word (mathlib.Core.List.tail z) ∷ []))) e (word-waiting _ _)
-rest-waiting standalone b w e = subst (λ z. T (waiting (word (mathlib.Core.List.tail z) ∷ []))) e (word-waiting _ _)
+rest-waiting : (k : Part) → T (waiting (word (partRest k) ∷ []))
+rest-waiting version = word-waiting _ _
+rest-waiting encoding = word-waiting _ _
+rest-waiting standalone = word-waiting _ _
 
-values-waiting : (k : Part) (q : Bool) → T (waiting (partValues k (Rattle.xml.specs.Chars.quote q)))
+pub values-waiting : (k : Part) (q : Bool) → T (waiting (partValues k (Rattle.xml.specs.Chars.quote q)))
 unfolding allApart apartFrom apart disjoint outOf disjointRanges allSpelled spelled someByte someRow filled word words partValues
 values-waiting version true = tt
 values-waiting version false = tt
@@ -80,9 +79,9 @@ module _ (L : Limits) where
   due-done (Due.told {t = t} {u = u} {v = v} m d e) w o =
       let x : List ℕ = t ++ (u ++ (v ++ (63 ∷ []))) in
       worded x (62 ∷ []) (After.at (moveAt L (before (prolog m (decl d e) Misc.none)) (simp (append-assoc, append-nil)) refl) (greater-late _ x)) w o
-  due-done (Due.name {b = b} {t = t} {u = u} {v = v} {w = w} m d x f e) w′ o =
-      worded (t ++ (u ++ (v ++ (b ∷ [])))) w
-      (move (After.partEq (named m d x f) Each.none) (ap (λ z. (t ++ (u ++ (v ++ z))) ++ []) e ∙ simp (append-assoc, append-nil))) w′ o
+  due-done (Due.name {k = k} {t = t} {u = u} {v = v} m d x f) w o =
+      worded (t ++ (u ++ (v ++ (partFirst k ∷ [])))) (partRest k)
+      (move (After.partEq (named m d x f) Each.none) (ap (λ z. (t ++ (u ++ (v ++ z))) ++ []) (name-parts k) ∙ simp (append-assoc, append-nil))) w o
   due-done (Due.value {k = k} q (named m d x f) e) w o = move (After.told m (part k q d x f e o)) (simp append-assoc)
 
   pub begun-done :
@@ -109,7 +108,7 @@ module _ (L : Limits) where
   due-waiting (Due.empty g e) = word-waiting _ _
   due-waiting (Due.end a) = end-waiting a
   due-waiting (Due.told m d e) = word-waiting _ _
-  due-waiting (Due.name {k = k} {b = b} {w = w} m d x f e) = rest-waiting k b w e
+  due-waiting (Due.name {k = k} m d x f) = rest-waiting k
   due-waiting (Due.value {k = k} q i e) = values-waiting k q
 
   pub begun-waiting : {t w : List ℕ} {es fs : List Ev} {rs : Rows} {r : ℕ} {k : State} → Begun L t es w rs r fs k → T (waiting rs)
@@ -249,15 +248,10 @@ module _ (L : Limits) where
   apiece-owed (some k) m d e = told-owed m d e
 
   part-owed :
-    {o : Option Part} (k : Part) {t u v : List ℕ} (b : ℕ) (w : List ℕ)
-    → partName k ≡ b ∷ w
-    → Mark t
-    → Told o u
-    → S v
-    → Reach ((t ++ (u ++ v)) ++ (b ∷ [])) [] (partArm o k w)
-  part-owed {o} k b w e m d f =
+    {o : Option Part} (k : Part) {t u v : List ℕ} → Mark t → Told o u → S v → Reach ((t ++ (u ++ v)) ++ (partFirst k ∷ [])) [] (partArm o k (partRest k))
+  part-owed {o} k m d f =
       check-owed _ _ Refused.misplaced
-      (λ x. subst (λ z. Reach z [] (goes [] (State.rows (word w ∷ []) Refused.misplaced [] (State.partEq o k)))) (simp append-assoc) (dues (Due.name {k = k} m d x f e)))
+      (λ x. subst (λ z. Reach z [] (goes [] (State.rows (word (partRest k) ∷ []) Refused.misplaced [] (State.partEq o k)))) (simp append-assoc) (dues (Due.name {k = k} m d x f)))
 
   quote-owed : {o : Option Part} {k : Part} {t u : List ℕ} (q : Bool) → InDecl o k t → Eq u → Reach ((t ++ u) ++ (Rattle.xml.specs.Chars.quote q ∷ [])) [] (Machine.partQuote k q)
   quote-owed {k = k} q i e = subst (λ z. Reach z [] (Machine.partQuote k q)) (simp append-assoc) (dues (Due.value q i e))
@@ -270,7 +264,6 @@ module _ (L : Limits) where
       (λ b h. onto (After.at (at-space-before L (bare m) h) (blank-late t h)), (onto (After.opening m), tt))
 
   owed : {t : List ℕ} {es : List Ev} {k : State} → After L t es k → Owed t es (arms L k)
-  unfolding partName
   owed After.start = (dues Due.mark, first-owed Mark.none)
   owed After.fresh = first-owed Mark.mark
   owed (After.opening {t = t} m) =
@@ -325,7 +318,7 @@ module _ (L : Limits) where
   owed (After.apiece {o = o} m d e) =
       (λ b h. onto (move (After.apiece m d (s-more L e h)) (simp append-assoc)),
       (apiece-owed o m d (s-each L e),
-      (part-owed version 118 _ refl m d e, (part-owed encoding 101 _ refl m d e, (part-owed standalone 115 _ refl m d e, tt)))))
+      (part-owed version m d e, (part-owed encoding m d e, (part-owed standalone m d e, tt)))))
   owed (After.partEq i e) =
       (λ b h. onto (move (After.partEq i (Each.more e h)) (simp append-assoc)),
       (onto (move (After.partVal i (eq e Each.none)) (simp append-assoc)), tt))
