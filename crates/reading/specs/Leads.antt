@@ -5,7 +5,7 @@
 --   past c a                   the cases a, without those in front that no byte of c meets
 --   by-class                   a byte of a class takes the first case that is left for the class
 --   by-rows, by-word           so does a spelling of some rows, or a word;  rows-part: a part of one
---   each-leads, char-leads, refer-leads        blanks, characters, references
+--   each-leads, char-leads, refer-leads        bytes of a class, characters, references
 --
 -- Assumes nothing. NOT here: what the states' cases are (crate xml, Machine).
 pub mod Data
@@ -239,6 +239,9 @@ module _ (L : Limits) where
   char-leads j k c f e (narrow h) = one (f _ h)
   char-leads j k c f e (wide o) = by-rows j k utf8 notChar [] _ e tt tt o
 
-  pub refer-leads : {w : List ℕ} (j k : State) → step L j 38 ≡ goes [] (State.amper k) → Reference w → Leads j w [] k
+  pub entity-leads : {w : List ℕ} (k : State) → OneOf entities w → Leads (State.amper k) w [] k
   unfolding allApart apartFrom apart disjoint outOf disjointRanges filled firsts past pickArms inClass word words
-  refer-leads j k e (reference o) = byte e (by-rows (State.amper k) k entities otherEntity [] _ refl tt tt o)
+  entity-leads k o = by-rows (State.amper k) k entities otherEntity [] _ refl tt tt o
+
+  pub refer-leads : {w : List ℕ} (j k : State) → step L j 38 ≡ goes [] (State.amper k) → Reference w → Leads j w [] k
+  refer-leads j k e (reference o) = byte e (entity-leads k o)

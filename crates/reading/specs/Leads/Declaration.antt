@@ -83,7 +83,7 @@ module _ (L : Limits) where
   rest-leads o encoding = by-word L _ (State.partEq o encoding) _ _ misplaced [] refl
   rest-leads o standalone = by-word L _ (State.partEq o standalone) _ _ misplaced [] refl
 
-  name-leads : (o : Option Part) (k : Part) → T (mayFollow o k) → Leads L (State.apiece o) (partName k) [] (State.partEq o k)
+  pub name-leads : (o : Option Part) (k : Part) → T (mayFollow o k) → Leads L (State.apiece o) (partName k) [] (State.partEq o k)
   name-leads o k x = subst (λ z. Leads L (State.apiece o) z [] (State.partEq o k)) (sym (name-parts k)) (byte (name-byte o k x) (rest-leads o k))
 
   module _ (j : State) (e : step L j 60 ≡ goes [] State.opening) where
