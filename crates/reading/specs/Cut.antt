@@ -27,9 +27,9 @@ module _ (L : Limits) where
       given-given es fs (stands gs k) = ap (λ z. stands z k) (sym (append-assoc es fs gs))
 
   next-onward :
-    (o : Outcome) (b : ℕ) (t u : List ℕ)
-    → ((k : State) → run L (t ++ u) k ≡ onward (run L t k) (run L u) u)
-    → next o (run L (t ++ u)) (b ∷ (t ++ u)) ≡ onward (next o (run L t) (b ∷ t)) (run L u) u
+      (o : Outcome) (b : ℕ) (t u : List ℕ)
+      → ((k : State) → run L (t ++ u) k ≡ onward (run L t k) (run L u) u)
+      → next o (run L (t ++ u)) (b ∷ (t ++ u)) ≡ onward (next o (run L t) (b ∷ t)) (run L u) u
   unfolding next
   next-onward (refused r) b t u h = refl
   next-onward (goes es k) b t u h = ap (given es) (h k) ∙ given-onward es (run L t k) (run L u) u
@@ -46,6 +46,6 @@ module _ (L : Limits) where
 
   -- a text and one byte more
   pub run-byte :
-    (t : List ℕ) (b : ℕ) (es : List Ev) (j k : State) → run L t j ≡ stands es k → run L (t ++ (b ∷ [])) j ≡ given es (next (step L k b) (run L []) (b ∷ []))
+      (t : List ℕ) (b : ℕ) (es : List Ev) (j k : State) → run L t j ≡ stands es k → run L (t ++ (b ∷ [])) j ≡ given es (next (step L k b) (run L []) (b ∷ []))
   unfolding run
   run-byte t b es j k e = cut-anywhere t (b ∷ []) j ∙ ap (λ z. onward z (run L (b ∷ [])) (b ∷ [])) e

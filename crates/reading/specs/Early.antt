@@ -15,28 +15,29 @@ use mathlib.Core.Path.{_≡_, refl, sym, ap, _∙_, subst}
 use mathlib.Core.Logic.{_⊎_, inl, inr}
 use mathlib.Core.Bool.{Bool, true, false, not, _||_}
 use mathlib.Core.Option.{Option, none, some}
-use mathlib.Core.List.{List, [], _∷_, _++_, append-nil}
+use mathlib.Core.List.{List, [], _∷_, _++_}
 use lib.Dec.{T, eqb, not-T}
 use lib.ListN.{length, length-append}
 use Rattle.choice.specs.When.{when}
-use Rattle.xml.specs.Class.{Rows, In, inClass, OneOf, this, word, words, waiting, allApart}
+use Rattle.xml.specs.Class.{Rows, inClass, this, words, waiting, allApart}
 use Rattle.xml.specs.Class.Laws.{some-spelling, waiting-sound, waiting-filled, and-l, and-r, word-spells}
 use Rattle.xml.specs.Chars.{nameChar, quote}
 use Rattle.xml.specs.Grammar
-use Rattle.xml.specs.Grammar.{Limits, Ev, Br, b0, among, sameName, Part, version, partValues, mayFollow, Each, eq, reference, Value, quoted, Name, name}
+use Rattle.xml.specs.Grammar.{Limits, Ev, Br, b0, among, sameName, Part, version, partValues, mayFollow, Each, eq, Value, quoted, Name, name}
 use Rattle.xml.specs.Grammar.{Attributes, etag, ctag, empty, Document}
 use Rattle.xml.specs.Machine.{Place, State, goes, remarks, up, emptied, step, pick, run, stopped, stands, given, thenByte}
-use Rattle.xml.specs.Unfinished.{Open, first, deeper, At, before, inside, after, Fits, InName, tag, InTag, attributed, InAtt, attribute, InValue, quoting}
+use Rattle.xml.specs.Unfinished.{Open, first, deeper, At, before, inside, after, Fits, InName, tag, InTag, attributed, InAtt, attribute, InValue}
+use Rattle.xml.specs.Unfinished.{quoting}
 use Rattle.reading.specs.Left.{left}
 use Rattle.reading.specs.Cut.{cut-anywhere, onward}
 use Rattle.reading.specs.Account.{Refers, Reads, Due, Begun, After}
 use Rattle.reading.specs.Account.Grows.{open-name}
-use Rattle.reading.specs.Account.Steps.{values-waiting}
+use Rattle.reading.specs.Account.Done.{values-waiting}
 use Rattle.reading.specs.Account.Sound.{run-account, accepted-document}
 use Rattle.reading.specs.Leads.{past, Leads, stay, leads-run, leads-append, one, by-rows, entity-leads}
-use Rattle.reading.specs.Leads.Data.{byte-leads, note-dash, dash-dash, bang-note, quoted-leads, value-close, data-amper}
+use Rattle.reading.specs.Leads.Data.{byte-leads, note-dash, dash-dash, bang-note, quoted-leads, value-close}
 use Rattle.reading.specs.Leads.Tags.{TagEnd, tag-end, tagged-end, gap-end, grow-leads, att-grows, eqs-eq, eq-leads, ended-leads, ctag-leads}
-use Rattle.reading.specs.Leads.Declaration.{toldAs, told-blank, part-leads, equals-leads, value-leads, name-leads}
+use Rattle.reading.specs.Leads.Declaration.{told-blank, equals-leads, value-leads, name-leads}
 use Rattle.reading.specs.Leads.Whole.{Prior, prior-start, prior-fresh, prior-before, derives-leads, document-accepted}
 
 -- names of 'a' alone, as long as is asked
@@ -154,17 +155,18 @@ module _ (L : Limits) (one-open : T (L .nest 1)) (one-name : T (L .name 1)) wher
 
   -- an attribute's name that can be made longer into a new one
   pub grown-alive :
-    {p : Place} {n m t u : List ℕ} {ms : List (List ℕ)} {es : List Ev}
-    → InAtt L p n ms m t es
-    → Each nameChar u
-    → T (L .name (length (m ++ u)))
-    → T (not (among (m ++ u) ms))
-    → Alive (State.att p n ms m)
+      {p : Place} {n m t u : List ℕ} {ms : List (List ℕ)} {es : List Ev}
+      → InAtt L p n ms m t es
+      → Each nameChar u
+      → T (L .name (length (m ++ u)))
+      → T (not (among (m ++ u) ms))
+      → Alive (State.att p n ms m)
   grown-alive {p} {n} {m} {u = u} {ms = ms} i e l x =
       on-to (grow-leads L (State.att p n ms) m (att-grows L p n ms) e l) (on-to (eq-leads L p n ms (m ++ u) x (eq Each.none Each.none)) (val-alive (m ++ u) i))
 
   value-alive : {p : Place} {n m t : List ℕ} {ms : List (List ℕ)} {q : Bool} {es : List Ev} → InValue L p n ms m q t es → Alive (State.value p n ms m q)
-  value-alive {p} {n} {m} {ms = ms} (quoting q i x e v) = along (quote q) [] (State.tagged p n (m ∷ ms)) (value-close L p n ms m q) (att-tag i (tagged-end L p n (m ∷ ms)))
+  value-alive {p} {n} {m} {ms = ms} (quoting q i x e v) =
+      along (quote q) [] (State.tagged p n (m ∷ ms)) (value-close L p n ms m q) (att-tag i (tagged-end L p n (m ∷ ms)))
 
   told-alive : (k : Part) → Alive (State.told k)
   unfolding inClass step pick when
@@ -259,7 +261,7 @@ module _ (L : Limits) (one-open : T (L .nest 1)) (one-name : T (L .name 1)) wher
   standing (After.partVal {o = o} {k = k} i e) = living (values-alive o k)
 
   any-alive :
-    {p : Place} {n m t : List ℕ} {ms : List (List ℕ)} {es : List Ev} → ((n : ℕ) → T (L .name n)) → InAtt L p n ms m t es → Alive (State.att p n ms m)
+      {p : Place} {n m t : List ℕ} {ms : List (List ℕ)} {es : List Ev} → ((n : ℕ) → T (L .name n)) → InAtt L p n ms m t es → Alive (State.att p n ms m)
   any-alive {m = m} {ms = ms} any-name i =
       let (u, e, l) = each-a (suc (total ms)) in
       grown-alive i e (any-name _)
@@ -284,39 +286,40 @@ module _ (L : Limits) (one-open : T (L .nest 1)) (one-name : T (L .name 1)) wher
   alive-or h = go (standing h)
     where
       name-or :
-        {p : Place} {n m t : List ℕ} {ms : List (List ℕ)} {es : List Ev} (x : Bool)
-        → among m ms ≡ x
-        → InAtt L p n ms m t es
-        → Alive (State.att p n ms m) ⊎ Doubled (State.att p n ms m)
+          {p : Place} {n m t : List ℕ} {ms : List (List ℕ)} {es : List Ev} (x : Bool)
+          → among m ms ≡ x
+          → InAtt L p n ms m t es
+          → Alive (State.att p n ms m) ⊎ Doubled (State.att p n ms m)
       name-or true e i = inr (doubled (subst T (sym e) tt))
       name-or false e i = inl (new-alive i (subst (λ z. T (not z)) (sym e) tt))
+
       go : {t : List ℕ} {es : List Ev} {k : State} → Standing t es k → Alive k ⊎ Doubled k
       go (living a) = inl a
       go (naming {m = m} {ms = ms} i) = name-or (among m ms) refl i
 
   -- a living state is on the way to a document
   pub alive-document :
-    (t : List ℕ) (es : List Ev) (k : State) → run L t State.start ≡ stands es k → Alive k → (u : List ℕ) × (fs : List Ev) × Document L (t ++ u) (es ++ fs)
+      (t : List ℕ) (es : List Ev) (k : State) → run L t State.start ≡ stands es k → Alive k → (u : List ℕ) × (fs : List Ev) × Document L (t ++ u) (es ++ fs)
   unfolding given
   alive-document t es k e a =
       let r : run L (t ++ a .rest) State.start ≡ stands (es ++ a .evs) (State.at Place.after b0) =
-        cut-anywhere L t (a .rest) State.start
-        ∙ ap (λ z. onward L z (run L (a .rest)) (a .rest)) e
-        ∙ ap (given es) (leads-run L (a .leads)) in
+      cut-anywhere L t (a .rest) State.start
+      ∙ ap (λ z. onward L z (run L (a .rest)) (a .rest)) e
+      ∙ ap (given es) (leads-run L (a .leads)) in
       (a .rest, a .evs, accepted-document L _ _ r)
 
   pub reaches-document :
-    ((n : ℕ) → T (L .name n))
-    → (t : List ℕ) (es : List Ev) (k : State)
-    → run L t State.start ≡ stands es k
-    → (u : List ℕ) × (fs : List Ev) × Document L (t ++ u) (es ++ fs)
+      ((n : ℕ) → T (L .name n))
+      → (t : List ℕ) (es : List Ev) (k : State)
+      → run L t State.start ≡ stands es k
+      → (u : List ℕ) × (fs : List Ev) × Document L (t ++ u) (es ++ fs)
   reaches-document any-name t es k e = alive-document t es k e (alive any-name (run-account L t es k e))
 
   -- a text that is refused begins none
   pub refused-none :
-    (t : List ℕ) (es : List Ev) (r : ℕ) (v : List ℕ) → run L t State.start ≡ stopped es r v → (u : List ℕ) (fs : List Ev) → Document L (t ++ u) fs → ⊥
+      (t : List ℕ) (es : List Ev) (r : ℕ) (v : List ℕ) → run L t State.start ≡ stopped es r v → (u : List ℕ) (fs : List Ev) → Document L (t ++ u) fs → ⊥
   refused-none t es r v e u fs d =
       let p : stopped es r (v ++ u) ≡ stands fs (State.at Place.after b0) =
-        sym (cut-anywhere L t u State.start ∙ ap (λ z. onward L z (run L u) u) e) ∙ document-accepted L (t ++ u) fs d in
+      sym (cut-anywhere L t u State.start ∙ ap (λ z. onward L z (run L u) u) e) ∙ document-accepted L (t ++ u) fs d in
       let z : _≡_ {A = ℕ} 0 1 = cc in
       omega arith

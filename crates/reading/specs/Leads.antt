@@ -19,8 +19,8 @@ use mathlib.Core.Bool.{Bool, true, false, not, _||_}
 use mathlib.Core.List.{List, [], _∷_, _++_, append-assoc, append-nil}
 use lib.Dec.{T, eqb, eqb→eq}
 use Rattle.choice.specs.When.{when-true, when-false}
-use Rattle.xml.specs.Class.{Class, Row, Rows, inRange, inClass, In, OneOf, this, that, derive, word, words, place, disjoint, disjointRanges, outOf, apart}
-use Rattle.xml.specs.Class.{apartFrom, allApart, filled, someRow, sound, waiting}
+use Rattle.xml.specs.Class.{Class, Row, Rows, inRange, inClass, In, OneOf, this, that, derive, word, words, place, disjoint, disjointRanges, outOf}
+use Rattle.xml.specs.Class.{apart, apartFrom, allApart, filled, someRow, sound, waiting}
 use Rattle.xml.specs.Class.Laws.{derive-on, derive-apart, derive-sound, word-spells, not-in, and-l, and-r, T-true, T-false, or-r}
 use Rattle.xml.specs.Chars.{utf8}
 use Rattle.xml.specs.Refused.{notChar, otherEntity}
@@ -113,10 +113,10 @@ module _ (L : Limits) where
   pub data Leads : State → List ℕ → List Ev → State → Type 0 where
     stay : {k : State} → Leads k [] [] k
     byte :
-      {j k l : State} {b : ℕ} {t : List ℕ} {es fs : List Ev}
-      → step L j b ≡ goes es k
-      → Leads k t fs l
-      → Leads j (b ∷ t) (es ++ fs) l
+        {j k l : State} {b : ℕ} {t : List ℕ} {es fs : List Ev}
+        → step L j b ≡ goes es k
+        → Leads k t fs l
+        → Leads j (b ∷ t) (es ++ fs) l
 
   pub leads-run : {t : List ℕ} {es : List Ev} {j k : State} → Leads j t es k → run L t j ≡ stands es k
   unfolding run next given
@@ -145,30 +145,30 @@ module _ (L : Limits) where
       pick-past c (arms L k) b h ∙ ap (λ z. pick z b) e ∙ when-true (inClass c b) (f b) (pick a b) (T-true (inClass c b) (h .holds))
 
   settle-nil :
-    (rs : Rows) (r b : ℕ) (fs : List Ev) (j k : State) → T (allApart rs) → OneOf rs [] → step L j b ≡ settle rs r fs k → Leads j (b ∷ []) fs k
+      (rs : Rows) (r b : ℕ) (fs : List Ev) (j k : State) → T (allApart rs) → OneOf rs [] → step L j b ≡ settle rs r fs k → Leads j (b ∷ []) fs k
   unfolding allApart apartFrom apart
   settle-nil ([] ∷ []) r b fs j k t h e = one e
   settle-nil ([] ∷ (x ∷ rs)) r b fs j k t h e = absurd t
   settle-nil ((c ∷ x) ∷ rs) r b fs j k t (that h) e = absurd (apart-none c x rs (and-l (apartFrom (c ∷ x) rs) _ t) h)
 
   settle-cons :
-    (rs : Rows) (r b b′ : ℕ) (w : List ℕ) (fs : List Ev) (j k : State)
-    → T (allApart rs)
-    → OneOf rs (b′ ∷ w)
-    → step L j b ≡ settle rs r fs k
-    → Leads (State.rows rs r fs k) (b′ ∷ w) fs k
-    → Leads j (b ∷ b′ ∷ w) fs k
+      (rs : Rows) (r b b′ : ℕ) (w : List ℕ) (fs : List Ev) (j k : State)
+      → T (allApart rs)
+      → OneOf rs (b′ ∷ w)
+      → step L j b ≡ settle rs r fs k
+      → Leads (State.rows rs r fs k) (b′ ∷ w) fs k
+      → Leads j (b ∷ b′ ∷ w) fs k
   unfolding allApart apartFrom apart
   settle-cons ([] ∷ []) r b b′ w fs j k t h e g = absurd (none-longer h)
   settle-cons ([] ∷ (x ∷ rs)) r b b′ w fs j k t h e g = absurd t
   settle-cons ((c ∷ x) ∷ rs) r b b′ w fs j k t h e g = byte e g
 
   settle-leads :
-    (w : List ℕ) (rs : Rows) (r b : ℕ) (fs : List Ev) (j k : State)
-    → T (allApart rs)
-    → OneOf rs w
-    → step L j b ≡ settle rs r fs k
-    → Leads j (b ∷ w) fs k
+      (w : List ℕ) (rs : Rows) (r b : ℕ) (fs : List Ev) (j k : State)
+      → T (allApart rs)
+      → OneOf rs w
+      → step L j b ≡ settle rs r fs k
+      → Leads j (b ∷ w) fs k
   unfolding step pick
   settle-leads [] rs r b fs j k t h e = settle-nil rs r b fs j k t h e
   settle-leads (b′ ∷ w) rs r b fs j k t h e =
@@ -177,20 +177,20 @@ module _ (L : Limits) where
 
   -- the first byte of a spelling
   pub row-byte :
-    (j k : State) (rs : Rows) (r : ℕ) (fs : List Ev) (b : ℕ)
-    → past (firsts rs) (arms L j) ≡ oneOf rs r fs k
-    → T (inClass (firsts rs) b)
-    → step L j b ≡ settle (derive b rs) r fs k
+      (j k : State) (rs : Rows) (r : ℕ) (fs : List Ev) (b : ℕ)
+      → past (firsts rs) (arms L j) ≡ oneOf rs r fs k
+      → T (inClass (firsts rs) b)
+      → step L j b ≡ settle (derive b rs) r fs k
   unfolding step pick
   row-byte j k rs r fs b e h = pick-past (firsts rs) (arms L j) b (record { holds = h }) ∙ ap (λ z. pick z b) e
 
   pub by-rows :
-    (j k : State) (rs : Rows) (r : ℕ) (fs : List Ev) (w : List ℕ)
-    → past (firsts rs) (arms L j) ≡ oneOf rs r fs k
-    → T (allApart rs)
-    → T (filled rs)
-    → OneOf rs w
-    → Leads j w fs k
+      (j k : State) (rs : Rows) (r : ℕ) (fs : List Ev) (w : List ℕ)
+      → past (firsts rs) (arms L j) ≡ oneOf rs r fs k
+      → T (allApart rs)
+      → T (filled rs)
+      → OneOf rs w
+      → Leads j w fs k
   by-rows j k rs r fs [] e t u h = absurd (filled-none rs u h)
   by-rows j k rs r fs (b ∷ w) e t u h =
       settle-leads w (derive b rs) r b fs j k (derive-apart b rs t) (derive-on h) (row-byte j k rs r fs b e (in-firsts h))
@@ -203,22 +203,24 @@ module _ (L : Limits) where
 
   -- a part of a spelling
   pub rows-part :
-    (w : List ℕ) (rs : Rows) (r : ℕ) (fs : List Ev) (k : State)
-    → T (sound rs)
-    → T (waiting (left w rs))
-    → Leads (State.rows rs r fs k) w [] (State.rows (left w rs) r fs k)
+      (w : List ℕ) (rs : Rows) (r : ℕ) (fs : List Ev) (k : State)
+      → T (sound rs)
+      → T (waiting (left w rs))
+      → Leads (State.rows rs r fs k) w [] (State.rows (left w rs) r fs k)
   unfolding left step pick
   rows-part [] rs r fs k t u = stay
   rows-part (b ∷ w) rs r fs k t u =
-      byte (settle-waiting (derive b rs) r fs k (waiting-back w (derive b rs) (derive-sound b rs t) u)) (rows-part w (derive b rs) r fs k (derive-sound b rs t) u)
+      byte
+      (settle-waiting (derive b rs) r fs k (waiting-back w (derive b rs) (derive-sound b rs t) u))
+      (rows-part w (derive b rs) r fs k (derive-sound b rs t) u)
 
   pub own-part :
-    (b : ℕ) (w : List ℕ) (j k : State) (rs : Rows) (r : ℕ)
-    → past (firsts rs) (arms L j) ≡ oneOf rs r [] k
-    → T (inClass (firsts rs) b)
-    → T (sound rs)
-    → T (waiting (left (b ∷ w) rs))
-    → Leads j (b ∷ w) [] (State.rows (left (b ∷ w) rs) r [] k)
+      (b : ℕ) (w : List ℕ) (j k : State) (rs : Rows) (r : ℕ)
+      → past (firsts rs) (arms L j) ≡ oneOf rs r [] k
+      → T (inClass (firsts rs) b)
+      → T (sound rs)
+      → T (waiting (left (b ∷ w) rs))
+      → Leads j (b ∷ w) [] (State.rows (left (b ∷ w) rs) r [] k)
   unfolding left
   own-part b w j k rs r e h t u =
       byte
@@ -230,11 +232,11 @@ module _ (L : Limits) where
   each-leads c k f (Each.more e h) = leads-append (each-leads c k f e) (one (f _ h))
 
   pub char-leads :
-    {w : List ℕ} (j k : State) (c : Class)
-    → ((b : ℕ) → In c b → step L j b ≡ goes [] k)
-    → past (firsts utf8) (arms L j) ≡ oneOf utf8 notChar [] k
-    → Char c w
-    → Leads j w [] k
+      {w : List ℕ} (j k : State) (c : Class)
+      → ((b : ℕ) → In c b → step L j b ≡ goes [] k)
+      → past (firsts utf8) (arms L j) ≡ oneOf utf8 notChar [] k
+      → Char c w
+      → Leads j w [] k
   unfolding allApart apartFrom apart disjoint outOf disjointRanges filled
   char-leads j k c f e (narrow h) = one (f _ h)
   char-leads j k c f e (wide o) = by-rows j k utf8 notChar [] _ e tt tt o

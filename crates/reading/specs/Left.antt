@@ -9,13 +9,12 @@
 --
 -- Assumes nothing. NOT here: rows and one byte (crate xml, Class.Laws).
 use Prim.Native.Nat.{ℕ}
-use mathlib.Core.Path.{_≡_, refl, sym, subst}
-use mathlib.Core.Bool.{Bool, true, false, _&&_}
+use mathlib.Core.Path.{_≡_, refl}
+use mathlib.Core.Bool.{false, _&&_}
 use mathlib.Core.List.{List, [], _∷_, _++_, cons≢nil}
 use lib.Dec.{T}
-use Rattle.xml.specs.Class.{Class, Row, Rows, inClass, OneOf, this, that, Spells, place, keep, derive, apart, apartFrom, allApart, spelled, allSpelled}
-use Rattle.xml.specs.Class.{filled, someRow, sound, waiting}
-use Rattle.xml.specs.Class.Laws.{and-l, and-r, and-i, derive-back, derive-on, derive-sound, some-spelling, sound-waiting, waiting-sound}
+use Rattle.xml.specs.Class.{Rows, OneOf, this, that, Spells, derive, apart, apartFrom, allApart, allSpelled, filled, someRow, sound, waiting}
+use Rattle.xml.specs.Class.Laws.{and-l, derive-back, derive-on, derive-sound, some-spelling, sound-waiting}
 
 unfoldable pub left : List ℕ → Rows → Rows
 left [] rs = rs

@@ -4,3 +4,7 @@ pub mod Cut
 pub mod Leads
 pub mod Exactly
 pub mod Early
+pub mod Earliest
+pub mod Another
+pub mod Within
+pub mod Examples

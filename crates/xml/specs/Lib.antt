@@ -3,5 +3,7 @@ pub mod Chars
 pub mod Bounds
 pub mod Refused
 pub mod Grammar
+pub mod Limited
 pub mod Machine
 pub mod Unfinished
+pub mod Sentences

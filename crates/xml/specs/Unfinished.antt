@@ -29,26 +29,26 @@ pub data Late : Place → List ℕ → Type 0 where
 
 pub data InDecl : Option Part → Part → List ℕ → Type 0 where
   named :
-    {o : Option Part} {k : Part} {t u v : List ℕ} → Mark t → Told o u → T (mayFollow o k) → S v → InDecl o k (t ++ (u ++ (v ++ partName k)))
+      {o : Option Part} {k : Part} {t u v : List ℕ} → Mark t → Told o u → T (mayFollow o k) → S v → InDecl o k (t ++ (u ++ (v ++ partName k)))
 
 module _ (L : Limits) where
   pub data Open : List ℕ → List (List ℕ) → List ℕ → List Ev → Type 0 where
     first : {n t u : List ℕ} → T (L .nest 1) → Prolog t → STag L n u → Open n [] (t ++ u) (opens n ∷ [])
     deeper :
-      {n m : List ℕ} {ms : List (List ℕ)} {k : Br} {t u v : List ℕ} {es fs : List Ev}
-      → T (L .nest (suc (suc (length ms))))
-      → Open m ms t es
-      → Content L (suc (length ms)) k u fs
-      → STag L n v
-      → Open n (m ∷ ms) (t ++ (u ++ v)) (es ++ (fs ++ (opens n ∷ [])))
+        {n m : List ℕ} {ms : List (List ℕ)} {k : Br} {t u v : List ℕ} {es fs : List Ev}
+        → T (L .nest (suc (suc (length ms))))
+        → Open m ms t es
+        → Content L (suc (length ms)) k u fs
+        → STag L n v
+        → Open n (m ∷ ms) (t ++ (u ++ v)) (es ++ (fs ++ (opens n ∷ [])))
 
   pub data At : Place → Br → List ℕ → List Ev → Type 0 where
     before : {t : List ℕ} → Prolog t → At Place.before b0 t []
     inside :
-      {n : List ℕ} {ns : List (List ℕ)} {k : Br} {t u : List ℕ} {es fs : List Ev}
-      → Open n ns t es
-      → Content L (suc (length ns)) k u fs
-      → At (Place.inside n ns) k (t ++ u) (es ++ fs)
+        {n : List ℕ} {ns : List (List ℕ)} {k : Br} {t u : List ℕ} {es fs : List Ev}
+        → Open n ns t es
+        → Content L (suc (length ns)) k u fs
+        → At (Place.inside n ns) k (t ++ u) (es ++ fs)
     after : {t : List ℕ} {es : List Ev} → Document L t es → At Place.after b0 t es
 
   pub data Fits : Place → Type 0 where
@@ -63,18 +63,18 @@ module _ (L : Limits) where
 
   pub data InAtt : Place → List ℕ → List (List ℕ) → List ℕ → List ℕ → List Ev → Type 0 where
     attribute :
-      {p : Place} {n m t u : List ℕ} {ms : List (List ℕ)} {es : List Ev}
-      → InTag p n ms t es
-      → S u
-      → T (L .atts (suc (length ms)))
-      → Name L m
-      → InAtt p n ms m (t ++ (u ++ m)) es
+        {p : Place} {n m t u : List ℕ} {ms : List (List ℕ)} {es : List Ev}
+        → InTag p n ms t es
+        → S u
+        → T (L .atts (suc (length ms)))
+        → Name L m
+        → InAtt p n ms m (t ++ (u ++ m)) es
 
   pub data InValue : Place → List ℕ → List (List ℕ) → List ℕ → Bool → List ℕ → List Ev → Type 0 where
     quoting :
-      {p : Place} {n m t u v : List ℕ} {ms : List (List ℕ)} {es : List Ev} (q : Bool)
-      → InAtt p n ms m t es
-      → T (not (among m ms))
-      → Eq u
-      → Value q v
-      → InValue p n ms m q (t ++ (u ++ (quote q ∷ v))) es
+        {p : Place} {n m t u v : List ℕ} {ms : List (List ℕ)} {es : List Ev} (q : Bool)
+        → InAtt p n ms m t es
+        → T (not (among m ms))
+        → Eq u
+        → Value q v
+        → InValue p n ms m q (t ++ (u ++ (quote q ∷ v))) es

@@ -5,23 +5,22 @@
 --   late-end, blank-late, greater-late      where the very start is past
 --
 -- Assumes nothing.
-use Prim.Native.Nat.{ℕ, suc}
-use native.Mathlib.Omega.{arith}
-use mathlib.Core.Path.{_≡_, refl, sym, ap, _∙_, subst}
-use mathlib.Core.Bool.{Bool, not}
-use mathlib.Core.Option.{Option, some}
+use Prim.Native.Nat.{ℕ}
+use mathlib.Core.Path.{_≡_, refl, subst}
+use mathlib.Core.Bool.{Bool}
 use mathlib.Core.List.{List, [], _∷_, _++_, append-assoc, append-nil}
 use lib.Dec.{T}
 use lib.ListN.{length}
 use Rattle.xml.specs.Class.{Class, only, inClass, In, disjoint, outOf, disjointRanges}
 use Rattle.xml.specs.Class.Laws.{not-both}
-use Rattle.xml.specs.Chars.{blank, nameStart, nameChar, unquoted, quote}
+use Rattle.xml.specs.Chars.{blank, nameChar, unquoted, quote}
 use Rattle.xml.specs.Grammar
-use Rattle.xml.specs.Grammar.{Limits, Ev, opens, closes, remark, Br, b0, among, Part, partName, mayFollow, Each, Char, S, s, Eq, eq, Reference}
-use Rattle.xml.specs.Grammar.{Comment, comment, Run, Value, AttValue, quoted, Name, name, Attributes, STag, stag, EmptyElemTag, etag, ETag}
-use Rattle.xml.specs.Grammar.{Derives, element, empty, Content, data′, child, refer, Misc, Mark, Decl, decl, Told, Prolog, prolog, Document, document}
+use Rattle.xml.specs.Grammar.{Limits, Ev, opens, closes, remark, Br, b0, Each, Char, S, s, Eq, eq, Reference, Comment, Run, Value, quoted, Name, name}
+use Rattle.xml.specs.Grammar.{Attributes, STag, stag, EmptyElemTag, etag, ETag, Derives, element, empty, Content, data′, child, refer, Misc, Mark}
+use Rattle.xml.specs.Grammar.{prolog, document}
 use Rattle.xml.specs.Machine.{Place, opened, up, emptied, remarks}
-use Rattle.xml.specs.Unfinished.{Late, Open, first, deeper, At, before, inside, after, Fits, InName, tag, InTag, attributed, InAtt, attribute, InValue, quoting}
+use Rattle.xml.specs.Unfinished.{Late, Open, first, deeper, At, before, inside, after, Fits, InName, tag, InTag, attributed, InAtt, attribute}
+use Rattle.xml.specs.Unfinished.{InValue, quoting}
 use Rattle.reading.specs.Account.{plus}
 
 module _ (L : Limits) where
@@ -39,55 +38,56 @@ module _ (L : Limits) where
   pub at-space-after : {k : Br} {t : List ℕ} {b : ℕ} {es : List Ev} → At L Place.after k t es → In blank b → At L Place.after b0 (t ++ (b ∷ [])) es
   at-space-after (after (document p e x)) h = moveAt (after (document p e (Misc.space x h))) (simp append-assoc) refl
 
-  stag-open : {p : Place} {k : Br} {t n u : List ℕ} {es : List Ev} → At L p k t es → Fits L p → STag L n u → At L (opened p n) b0 (t ++ u) (es ++ (opens n ∷ []))
+  stag-open :
+      {p : Place} {k : Br} {t n u : List ℕ} {es : List Ev} → At L p k t es → Fits L p → STag L n u → At L (opened p n) b0 (t ++ u) (es ++ (opens n ∷ []))
   stag-open (before p) (Fits.before f) g = moveAt (inside (first f p g) (data′ Run.none)) (simp append-nil) refl
   stag-open (inside o c) (Fits.inside f) g =
       moveAt (inside (deeper f o c g) (data′ Run.none)) (simp (append-assoc, append-nil)) (simp (append-assoc, append-nil))
 
   pub at-open :
-    {p : Place} {n t u : List ℕ} {ms : List (List ℕ)} {es : List Ev}
-    → InTag L p n ms t es
-    → Each blank u
-    → At L (opened p n) b0 (t ++ (u ++ (62 ∷ []))) (es ++ (opens n ∷ []))
+      {p : Place} {n t u : List ℕ} {ms : List (List ℕ)} {es : List Ev}
+      → InTag L p n ms t es
+      → Each blank u
+      → At L (opened p n) b0 (t ++ (u ++ (62 ∷ []))) (es ++ (opens n ∷ []))
   at-open (attributed (tag a f n) g) e = moveAt (stag-open a f (stag n g e)) (simp append-assoc) refl
 
   etag-empty :
-    {p : Place} {k : Br} {t n u : List ℕ} {es : List Ev}
-    → At L p k t es
-    → Fits L p
-    → EmptyElemTag L n u
-    → At L (emptied p) b0 (t ++ u) (es ++ (opens n ∷ closes n ∷ []))
+      {p : Place} {k : Br} {t n u : List ℕ} {es : List Ev}
+      → At L p k t es
+      → Fits L p
+      → EmptyElemTag L n u
+      → At L (emptied p) b0 (t ++ u) (es ++ (opens n ∷ closes n ∷ []))
   etag-empty (before p) (Fits.before f) g = moveAt (after (document p (empty f g) Misc.none)) (simp append-nil) refl
   etag-empty (inside o c) (Fits.inside f) g = moveAt (inside o (child c (empty f g) Run.none)) (simp (append-assoc, append-nil)) (simp append-assoc)
 
   pub at-empty :
-    {p : Place} {n t u : List ℕ} {ms : List (List ℕ)} {es : List Ev}
-    → InTag L p n ms t es
-    → Each blank u
-    → At L (emptied p) b0 (t ++ (u ++ (47 ∷ 62 ∷ []))) (es ++ (opens n ∷ closes n ∷ []))
+      {p : Place} {n t u : List ℕ} {ms : List (List ℕ)} {es : List Ev}
+      → InTag L p n ms t es
+      → Each blank u
+      → At L (emptied p) b0 (t ++ (u ++ (47 ∷ 62 ∷ []))) (es ++ (opens n ∷ closes n ∷ []))
   at-empty (attributed (tag a f n) g) e = moveAt (etag-empty a f (etag n g e)) (simp append-assoc) refl
 
   pub at-close :
-    {k : Br} {t n u : List ℕ} {ns : List (List ℕ)} {es : List Ev}
-    → At L (Place.inside n ns) k t es
-    → ETag L n u
-    → At L (up ns) b0 (t ++ u) (es ++ (closes n ∷ []))
+      {k : Br} {t n u : List ℕ} {ns : List (List ℕ)} {es : List Ev}
+      → At L (Place.inside n ns) k t es
+      → ETag L n u
+      → At L (up ns) b0 (t ++ u) (es ++ (closes n ∷ []))
   at-close (inside (first f p g) c) h = moveAt (after (document p (element f g c h) Misc.none)) (simp (append-assoc, append-nil)) refl
   at-close (inside (deeper f o x g) c) h = moveAt (inside o (child x (element f g c h) Run.none)) (simp (append-assoc, append-nil)) (simp append-assoc)
 
   pub at-refer :
-    {n t u : List ℕ} {ns : List (List ℕ)} {k : Br} {es : List Ev}
-    → At L (Place.inside n ns) k t es
-    → Reference u
-    → At L (Place.inside n ns) b0 (t ++ u) es
+      {n t u : List ℕ} {ns : List (List ℕ)} {k : Br} {es : List Ev}
+      → At L (Place.inside n ns) k t es
+      → Reference u
+      → At L (Place.inside n ns) b0 (t ++ u) es
   at-refer (inside o c) r = moveAt (inside o (refer c r Run.none)) (simp (append-assoc, append-nil)) refl
 
   -- the run at the end of a content grows
   grow :
-    {d : ℕ} {j k : Br} {t c : List ℕ} {es : List Ev}
-    → Content L d j t es
-    → ((u : List ℕ) → Run j u → Run k (u ++ c))
-    → Content L d k (t ++ c) es
+      {d : ℕ} {j k : Br} {t c : List ℕ} {es : List Ev}
+      → Content L d j t es
+      → ((u : List ℕ) → Run j u → Run k (u ++ c))
+      → Content L d k (t ++ c) es
   grow (data′ r) f = data′ (f _ r)
   grow {d} {j} {k} (child {es = es} {fs = fs} x e r) f = subst (λ z. Content L d k z (es ++ fs)) (simp append-assoc) (child x e (f _ r))
   grow {d} {j} {k} (refer {es = es} x e r) f = subst (λ z. Content L d k z es) (simp append-assoc) (refer x e (f _ r))
@@ -95,29 +95,29 @@ module _ (L : Limits) where
       subst (λ z. Content L d k z (es ++ (remark ∷ []))) (simp append-assoc) (Derives.remarked x e (f _ r))
 
   pub at-grow :
-    {n t c : List ℕ} {ns : List (List ℕ)} {j k : Br} {es : List Ev}
-    → At L (Place.inside n ns) j t es
-    → ((u : List ℕ) → Run j u → Run k (u ++ c))
-    → At L (Place.inside n ns) k (t ++ c) es
+      {n t c : List ℕ} {ns : List (List ℕ)} {j k : Br} {es : List Ev}
+      → At L (Place.inside n ns) j t es
+      → ((u : List ℕ) → Run j u → Run k (u ++ c))
+      → At L (Place.inside n ns) k (t ++ c) es
   at-grow (inside o x) f = moveAt (inside o (grow x f)) (simp append-assoc) refl
 
   pub name-more : {n : List ℕ} {b : ℕ} → Name L n → In nameChar b → T (L .name (length (n ++ (b ∷ [])))) → Name L (n ++ (b ∷ []))
   name-more (name f e l) h x = name f (Each.more e h) x
 
   pub tag-more :
-    {p : Place} {n t : List ℕ} {b : ℕ} {es : List Ev}
-    → InName L p n t es
-    → In nameChar b
-    → T (L .name (length (n ++ (b ∷ []))))
-    → InName L p (n ++ (b ∷ [])) (t ++ (b ∷ [])) es
+      {p : Place} {n t : List ℕ} {b : ℕ} {es : List Ev}
+      → InName L p n t es
+      → In nameChar b
+      → T (L .name (length (n ++ (b ∷ []))))
+      → InName L p (n ++ (b ∷ [])) (t ++ (b ∷ [])) es
   tag-more {p} {n} {b = b} {es = es} (tag a f g) h x = subst (λ z. InName L p (n ++ (b ∷ [])) z es) (simp append-assoc) (tag a f (name-more g h x))
 
   pub att-more :
-    {p : Place} {n m t : List ℕ} {ms : List (List ℕ)} {b : ℕ} {es : List Ev}
-    → InAtt L p n ms m t es
-    → In nameChar b
-    → T (L .name (length (m ++ (b ∷ []))))
-    → InAtt L p n ms (m ++ (b ∷ [])) (t ++ (b ∷ [])) es
+      {p : Place} {n m t : List ℕ} {ms : List (List ℕ)} {b : ℕ} {es : List Ev}
+      → InAtt L p n ms m t es
+      → In nameChar b
+      → T (L .name (length (m ++ (b ∷ []))))
+      → InAtt L p n ms (m ++ (b ∷ [])) (t ++ (b ∷ [])) es
   att-more {p} {n} {m} {ms = ms} {b = b} {es = es} (attribute g u x i) h y =
       subst (λ z. InAtt L p n ms (m ++ (b ∷ [])) z es) (simp append-assoc) (attribute g u x (name-more i h y))
 
@@ -134,25 +134,25 @@ module _ (L : Limits) where
   eq-more (eq e f) h = subst Eq (simp append-assoc) (eq e (Each.more f h))
 
   pub value-char :
-    {p : Place} {n m t c : List ℕ} {ms : List (List ℕ)} {q : Bool} {es : List Ev}
-    → InValue L p n ms m q t es
-    → Char (unquoted q) c
-    → InValue L p n ms m q (t ++ c) es
+      {p : Place} {n m t c : List ℕ} {ms : List (List ℕ)} {q : Bool} {es : List Ev}
+      → InValue L p n ms m q t es
+      → Char (unquoted q) c
+      → InValue L p n ms m q (t ++ c) es
   value-char {p} {n} {m} {ms = ms} {es = es} (quoting q a x e v) h =
       subst (λ z. InValue L p n ms m q z es) (simp append-assoc) (quoting q a x e (Value.char v h))
 
   pub value-ref :
-    {p : Place} {n m t c : List ℕ} {ms : List (List ℕ)} {q : Bool} {es : List Ev}
-    → InValue L p n ms m q t es
-    → Reference c
-    → InValue L p n ms m q (t ++ c) es
+      {p : Place} {n m t c : List ℕ} {ms : List (List ℕ)} {q : Bool} {es : List Ev}
+      → InValue L p n ms m q t es
+      → Reference c
+      → InValue L p n ms m q (t ++ c) es
   value-ref {p} {n} {m} {ms = ms} {es = es} (quoting q a x e v) h =
       subst (λ z. InValue L p n ms m q z es) (simp append-assoc) (quoting q a x e (Value.ref v h))
 
   pub value-end :
-    {p : Place} {n m t : List ℕ} {ms : List (List ℕ)} {q : Bool} {es : List Ev}
-    → InValue L p n ms m q t es
-    → InTag L p n (m ∷ ms) (t ++ (quote q ∷ [])) es
+      {p : Place} {n m t : List ℕ} {ms : List (List ℕ)} {q : Bool} {es : List Ev}
+      → InValue L p n ms m q t es
+      → InTag L p n (m ∷ ms) (t ++ (quote q ∷ [])) es
   value-end {p} {n} {m} {ms = ms} {es = es} (quoting q (attribute (attributed i g) u y j) x e v) =
       subst (λ z. InTag L p n (m ∷ ms) z es) (simp append-assoc) (attributed i (Attributes.more g u y j x e (quoted q v)))
 

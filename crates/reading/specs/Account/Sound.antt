@@ -30,10 +30,10 @@ module _ (L : Limits) where
   given-lands t es fs (stands gs k) h = subst (λ z. After L t z k) (append-assoc es fs gs) h
 
   next-lands :
-    (t u : List ℕ) (es : List Ev) (b : ℕ) (o : Outcome) (f : State → Result)
-    → Reach L (t ++ (b ∷ [])) es o
-    → ((fs : List Ev) (k : State) → After L (t ++ (b ∷ [])) fs k → Lands ((t ++ (b ∷ [])) ++ u) fs (f k))
-    → Lands (t ++ (b ∷ u)) es (next o f (b ∷ u))
+      (t u : List ℕ) (es : List Ev) (b : ℕ) (o : Outcome) (f : State → Result)
+      → Reach L (t ++ (b ∷ [])) es o
+      → ((fs : List Ev) (k : State) → After L (t ++ (b ∷ [])) fs k → Lands ((t ++ (b ∷ [])) ++ u) fs (f k))
+      → Lands (t ++ (b ∷ u)) es (next o f (b ∷ u))
   unfolding next
   next-lands t u es b (refused r) f h g = tt
   next-lands t u es b (goes fs k) f (reaches h) g =

@@ -8,7 +8,7 @@
 --
 -- Assumes nothing.
 use Prim.Native.Nat.{ℕ}
-use mathlib.Core.Path.{_≡_, refl, sym, subst}
+use mathlib.Core.Path.{_≡_, refl, subst}
 use mathlib.Core.Logic.{_⊎_, inl, inr, _↔_}
 use mathlib.Core.Bool.{Bool}
 use mathlib.Core.Option.{Option}
@@ -21,19 +21,21 @@ use Rattle.xml.specs.Refused.{misplaced}
 use Rattle.xml.specs.Grammar.{Limits, Ev, Br, b0, Part, Mark}
 use Rattle.xml.specs.Grammar
 use Rattle.xml.specs.Machine.{Place, State, goes, oneOf, arms, pick, step, stands, run}
-use Rattle.xml.specs.Unfinished.{Late, Open, first, deeper, At, before, inside, after, Fits, InName, tag, InTag, attributed, InAtt, attribute, InValue}
-use Rattle.xml.specs.Unfinished.{quoting, InDecl, named}
+use Rattle.xml.specs.Unfinished.{Late, Open, first, deeper, At, before, inside, after, Fits, InName, tag, InTag, attributed, InAtt, attribute}
+use Rattle.xml.specs.Unfinished.{InValue, quoting, InDecl, named}
 use Rattle.reading.specs.Left.{left, left-back}
 use Rattle.reading.specs.Account.{Refers, Reads, Due, Begun, After}
 use Rattle.reading.specs.Account.Grows.{open-name}
-use Rattle.reading.specs.Account.Steps.{reads-waiting, due-waiting}
+use Rattle.reading.specs.Account.Done.{reads-waiting, due-waiting}
 use Rattle.reading.specs.Account.Sound.{run-account}
-use Rattle.reading.specs.Leads.{pickArms, past, firsts, in-firsts, Leads, stay, byte, leads-run, leads-append, leads-quiet, leads-same, one, by-word, rows-part, own-part}
-use Rattle.reading.specs.Leads.Data.{note-wide, dash-wide, note-dash, dash-dash, remarked-leads, bang-note, data-wide, data-amper, value-wide, value-amper}
-use Rattle.reading.specs.Leads.Data.{value-open, value-leads, s-leads}
-use Rattle.reading.specs.Leads.Tags.{attsAs, gap-leads, atts-lead, gap-name, att-blank, eqs-blank, eq-leads, slashed-leads, ending-blank, ended-blank}
-use Rattle.reading.specs.Leads.Tags.{slash-inside, ending-leads}
-use Rattle.reading.specs.Leads.Declaration.{toldAs, xml-leads, told-leads, piece-leads, part-leads, blanks-lead, equals-leads, quote-leads, name-byte, decl-end}
+use Rattle.reading.specs.Leads.{pickArms, past, firsts, in-firsts, Leads, stay, byte, leads-run, leads-append, leads-quiet, leads-same, one}
+use Rattle.reading.specs.Leads.{by-word, rows-part, own-part}
+use Rattle.reading.specs.Leads.Data.{note-wide, dash-wide, note-dash, dash-dash, remarked-leads, bang-note, data-wide, data-amper, value-wide}
+use Rattle.reading.specs.Leads.Data.{value-amper, value-open, value-leads, s-leads}
+use Rattle.reading.specs.Leads.Tags.{attsAs, gap-leads, atts-lead, gap-name, att-blank, eqs-blank, eq-leads, slashed-leads, ending-blank}
+use Rattle.reading.specs.Leads.Tags.{ended-blank, slash-inside, ending-leads}
+use Rattle.reading.specs.Leads.Declaration.{xml-leads, told-leads, piece-leads, part-leads, blanks-lead, equals-leads, quote-leads, name-byte}
+use Rattle.reading.specs.Leads.Declaration.{decl-end}
 use Rattle.reading.specs.Leads.Whole.{gate-inside, name-leads, stag-leads, derives-leads, mark-leads, prolog-leads, document-leads}
 
 module _ (L : Limits) where
@@ -43,7 +45,7 @@ module _ (L : Limits) where
       leads-append L (open-leads o) (leads-append L (derives-leads L c m ms refl) (stag-leads L (gate-inside L m ms k) x g))
 
   inside-leads :
-    {n t : List ℕ} {ns : List (List ℕ)} {k : Br} {es : List Ev} → At L (Place.inside n ns) k t es → Leads L State.start t es (State.at (Place.inside n ns) k)
+      {n t : List ℕ} {ns : List (List ℕ)} {k : Br} {es : List Ev} → At L (Place.inside n ns) k t es → Leads L State.start t es (State.at (Place.inside n ns) k)
   inside-leads {n} {ns = ns} (inside o c) = leads-append L (open-leads o) (derives-leads L c n ns refl)
 
   pub at-leads : {p : Place} {k : Br} {t : List ℕ} {es : List Ev} → At L p k t es → Late p t → Leads L State.start t es (State.at p k)
@@ -79,18 +81,18 @@ module _ (L : Limits) where
   bang-reached a = let d = at-door a in leads-quiet L (d .leads) (byte (d .less) (one L (d .bangs)))
 
   note-reached :
-    {p : Place} {k : Br} {t u : List ℕ} {es : List Ev}
-    → At L p k t es
-    → Grammar.Remarked u
-    → Leads L State.start (t ++ (60 ∷ 33 ∷ 45 ∷ 45 ∷ u)) es (State.note p)
+      {p : Place} {k : Br} {t u : List ℕ} {es : List Ev}
+      → At L p k t es
+      → Grammar.Remarked u
+      → Leads L State.start (t ++ (60 ∷ 33 ∷ 45 ∷ 45 ∷ u)) es (State.note p)
   note-reached {p} a r =
       leads-same L (leads-quiet L (bang-reached a) (leads-append L (bang-note L p) (remarked-leads L p r))) (simp append-assoc)
 
   dash-reached :
-    {p : Place} {k : Br} {t u : List ℕ} {es : List Ev}
-    → At L p k t es
-    → Grammar.Remarked u
-    → Leads L State.start (t ++ (60 ∷ 33 ∷ 45 ∷ 45 ∷ (u ++ (45 ∷ [])))) es (State.dash p)
+      {p : Place} {k : Br} {t u : List ℕ} {es : List Ev}
+      → At L p k t es
+      → Grammar.Remarked u
+      → Leads L State.start (t ++ (60 ∷ 33 ∷ 45 ∷ 45 ∷ (u ++ (45 ∷ [])))) es (State.dash p)
   dash-reached {p} a r =
       leads-same L (leads-quiet L (note-reached a r) (one L (note-dash L p))) (simp append-assoc)
 
@@ -103,11 +105,13 @@ module _ (L : Limits) where
   tag-reached {p} {n} (attributed i g) = leads-quiet L (name-reached i) (atts-lead L p n g)
 
   pub att-reached :
-    {p : Place} {n m t : List ℕ} {ms : List (List ℕ)} {es : List Ev} → InAtt L p n ms m t es → Leads L State.start t es (State.att p n ms m)
+      {p : Place} {n m t : List ℕ} {ms : List (List ℕ)} {es : List Ev} → InAtt L p n ms m t es → Leads L State.start t es (State.att p n ms m)
   att-reached {p} {n} {ms = ms} (attribute g u x i) = leads-quiet L (tag-reached g) (leads-append L (gap-leads L p n ms u) (gap-name L p n ms x i))
 
   pub value-reached :
-    {p : Place} {n m t : List ℕ} {ms : List (List ℕ)} {q : Bool} {es : List Ev} → InValue L p n ms m q t es → Leads L State.start t es (State.value p n ms m q)
+      {p : Place} {n m t : List ℕ} {ms : List (List ℕ)} {q : Bool} {es : List Ev}
+      → InValue L p n ms m q t es
+      → Leads L State.start t es (State.value p n ms m q)
   value-reached {p} {n} {m} {ms = ms} (quoting q i x e v) =
       leads-quiet L (att-reached i) (leads-append L (eq-leads L p n ms m x e) (byte (value-open L p n ms m q) (value-leads L p n ms m q v)))
 
@@ -149,11 +153,12 @@ module _ (L : Limits) where
       leads-append L (leads-append L l (part-leads L j e k d x f)) (leads-append L (equals-leads L o k g) (one L (quote-leads L o k q)))
 
   rows-leads :
-    {t w : List ℕ} {es fs : List Ev} {rs : Rows} {r : ℕ} {k : State}
-    → Begun L t es w rs r fs k
-    → T (waiting (left w rs))
-    → Leads L State.start (t ++ w) es (State.rows (left w rs) r fs k)
-  rows-leads {w = w} {fs = fs} {rs = rs} {r = r} {k = k} (Begun.due d) u = leads-quiet L (due-leads d) (rows-part L w rs r fs k (waiting-sound rs (due-waiting L d)) u)
+      {t w : List ℕ} {es fs : List Ev} {rs : Rows} {r : ℕ} {k : State}
+      → Begun L t es w rs r fs k
+      → T (waiting (left w rs))
+      → Leads L State.start (t ++ w) es (State.rows (left w rs) r fs k)
+  rows-leads {w = w} {fs = fs} {rs = rs} {r = r} {k = k} (Begun.due d) u =
+      leads-quiet L (due-leads d) (rows-part L w rs r fs k (waiting-sound rs (due-waiting L d)) u)
   rows-leads (Begun.reads {w = w} {b = b} {rs = rs} {r = r} {j = j} {k = k} h) u =
       let (v, o) = some-spelling (left (b ∷ w) rs) u in
       leads-quiet L (reads-leads h) (own-part L b w j k rs r (reads-own h) (in-firsts (left-back (b ∷ w) rs o)) (waiting-sound rs (reads-waiting L h)) u)
@@ -162,7 +167,9 @@ module _ (L : Limits) where
   end-name (inside o c) = open-name L o
 
   ending-reached :
-    {n t : List ℕ} {ns : List (List ℕ)} {k : Br} {es : List Ev} → At L (Place.inside n ns) k t es → Leads L State.start (t ++ (60 ∷ 47 ∷ n)) es (State.ending n ns)
+      {n t : List ℕ} {ns : List (List ℕ)} {k : Br} {es : List Ev}
+      → At L (Place.inside n ns) k t es
+      → Leads L State.start (t ++ (60 ∷ 47 ∷ n)) es (State.ending n ns)
   ending-reached {n} {ns = ns} {k = k} a = leads-quiet L (inside-leads a) (ending-leads L n ns k (end-name a))
 
   part-reached : {o : Option Part} {k : Part} {t : List ℕ} → InDecl o k t → Leads L State.start t [] (State.partEq o k)

@@ -17,7 +17,8 @@ use Rattle.xml.specs.Refused.{misplaced, notChar}
 use Rattle.xml.specs.Grammar.{Limits, Ev, Br, b0, Each, S, s, Remarked, Comment, comment, Run, Value, AttValue, quoted}
 use Rattle.xml.specs.Machine.{Place, State, goes, oneOf, remarks, arms, pick, step, thenByte}
 use Rattle.choice.specs.When.{when}
-use Rattle.reading.specs.Leads.{pickArms, past, firsts, Leads, stay, byte, leads-append, one, by-class, by-rows, by-word, char-leads, refer-leads}
+use Rattle.reading.specs.Leads.{pickArms, past, firsts, Leads, stay, byte, leads-append, one, by-class, by-rows, by-word, char-leads}
+use Rattle.reading.specs.Leads.{refer-leads}
 
 module _ (L : Limits) where
   -- this one byte, and the events that wait for it
@@ -61,11 +62,11 @@ module _ (L : Limits) where
       by-rows L (State.bang p) (State.note p) (word (45 ∷ 45 ∷ []) ∷ []) misplaced [] (45 ∷ 45 ∷ []) refl tt tt (this (word-spells (45 ∷ 45 ∷ [])))
 
   pub comment-leads :
-    {u : List ℕ} (p : Place) (j m : State)
-    → step L j 60 ≡ goes [] m
-    → step L m 33 ≡ goes [] (State.bang p)
-    → Comment u
-    → Leads L j u (remarks p) (State.at p b0)
+      {u : List ℕ} (p : Place) (j m : State)
+      → step L j 60 ≡ goes [] m
+      → step L m 33 ≡ goes [] (State.bang p)
+      → Comment u
+      → Leads L j u (remarks p) (State.at p b0)
   comment-leads p j m e f (comment r) =
       byte e
       (byte f
@@ -147,18 +148,18 @@ module _ (L : Limits) where
     s-leads (s e h) = via-more (via e) h
 
     via-then :
-      {t : List ℕ} (b : ℕ) {l : State} {es : List Ev}
-      → Via j k t
-      → step L j b ≡ goes es l
-      → step L k b ≡ goes es l
-      → Leads L j (t ++ (b ∷ [])) es l
+        {t : List ℕ} (b : ℕ) {l : State} {es : List Ev}
+        → Via j k t
+        → step L j b ≡ goes es l
+        → step L k b ≡ goes es l
+        → Leads L j (t ++ (b ∷ [])) es l
     via-then b here x y = one L x
     via-then b (there h) x y = leads-append L h (one L y)
 
     pub blanks-then :
-      {t : List ℕ} (b : ℕ) {l : State} {es : List Ev}
-      → Each blank t
-      → step L j b ≡ goes es l
-      → step L k b ≡ goes es l
-      → Leads L j (t ++ (b ∷ [])) es l
+        {t : List ℕ} (b : ℕ) {l : State} {es : List Ev}
+        → Each blank t
+        → step L j b ≡ goes es l
+        → step L k b ≡ goes es l
+        → Leads L j (t ++ (b ∷ [])) es l
     blanks-then b e x y = via-then b (via e) x y

@@ -17,11 +17,10 @@ use Rattle.xml.specs.Class.{inClass, In, OneOf, word, disjoint, disjointRanges,
 use Rattle.xml.specs.Class.Laws.{and-l, waiting-sound, waiting-filled}
 use Rattle.xml.specs.Chars.{blank, quote}
 use Rattle.xml.specs.Refused.{misplaced, instruction}
-use Rattle.xml.specs.Grammar.{Limits, Part, version, encoding, standalone, partName, partValues, mayFollow, Each, S, Eq, eq, Told, begun, part}
+use Rattle.xml.specs.Grammar.{Limits, Part, version, encoding, standalone, partName, partValues, mayFollow, Each, S, Eq, eq, Told, begun, part, b0}
 use Rattle.xml.specs.Machine.{Place, State, goes, pick, step, thenByte, partRefusal}
-use Rattle.xml.specs.Grammar.{b0}
 use Rattle.reading.specs.Account.{partFirst, partRest, name-parts}
-use Rattle.reading.specs.Account.Steps.{values-waiting}
+use Rattle.reading.specs.Account.Done.{values-waiting}
 use Rattle.reading.specs.Leads.{pickArms, past, check-true, Leads, byte, leads-append, one, by-class, by-rows, by-word, each-leads}
 use Rattle.reading.specs.Leads.Data.{byte-leads, s-leads, blanks-then}
 
@@ -66,13 +65,14 @@ module _ (L : Limits) where
         let rs = partValues k (quote q) in
         let t : T (waiting rs) = values-waiting k q in
         byte (quote-leads q)
-        (by-rows L (State.rows rs (partRefusal k) [] (State.told k)) (State.told k) rs (partRefusal k) [] w refl (and-l (allApart rs) _ (waiting-sound rs t)) (waiting-filled rs t) h)
+        (by-rows L (State.rows rs (partRefusal k) [] (State.told k)) (State.told k) rs (partRefusal k) [] w refl
+        (and-l (allApart rs) _ (waiting-sound rs t)) (waiting-filled rs t) h)
 
   -- the first byte of a part's name
   pub name-byte :
-    (o : Option Part) (k : Part)
-    → T (mayFollow o k)
-    → step L (State.apiece o) (partFirst k) ≡ goes [] (State.rows (word (partRest k) ∷ []) misplaced [] (State.partEq o k))
+      (o : Option Part) (k : Part)
+      → T (mayFollow o k)
+      → step L (State.apiece o) (partFirst k) ≡ goes [] (State.rows (word (partRest k) ∷ []) misplaced [] (State.partEq o k))
   unfolding inClass step pick when
   name-byte o version x = check-true _ misplaced _ x
   name-byte o encoding x = check-true _ misplaced _ x

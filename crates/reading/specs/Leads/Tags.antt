@@ -32,11 +32,11 @@ module _ (L : Limits) where
   length-snoc n b = simp length-append (omega arith)
 
   pub grow-leads :
-    {t : List ℕ} (f : List ℕ → State) (n : List ℕ)
-    → ((m : List ℕ) (b : ℕ) → In nameChar b → step L (f m) b ≡ longer L m f b)
-    → Each nameChar t
-    → T (L .name (length (n ++ t)))
-    → Leads L (f n) t [] (f (n ++ t))
+      {t : List ℕ} (f : List ℕ → State) (n : List ℕ)
+      → ((m : List ℕ) (b : ℕ) → In nameChar b → step L (f m) b ≡ longer L m f b)
+      → Each nameChar t
+      → T (L .name (length (n ++ t)))
+      → Leads L (f n) t [] (f (n ++ t))
   grow-leads f n g Each.none h = subst (λ z. Leads L (f n) [] [] (f z)) (sym (append-nil n)) stay
   grow-leads f n g (Each.more {t = t} {b = b} e i) h =
       let a : n ++ (t ++ (b ∷ [])) ≡ (n ++ t) ++ (b ∷ []) = sym (append-assoc n t (b ∷ [])) in
@@ -50,7 +50,7 @@ module _ (L : Limits) where
   tag-grows p n b h = by-class L (State.tag p n) nameChar _ _ refl h
 
   pub att-grows :
-    (p : Place) (n : List ℕ) (ms : List (List ℕ)) (m : List ℕ) (b : ℕ) → In nameChar b → step L (State.att p n ms m) b ≡ longer L m (State.att p n ms) b
+      (p : Place) (n : List ℕ) (ms : List (List ℕ)) (m : List ℕ) (b : ℕ) → In nameChar b → step L (State.att p n ms m) b ≡ longer L m (State.att p n ms) b
   unfolding past pickArms disjoint outOf disjointRanges
   att-grows p n ms m b h = by-class L (State.att p n ms m) nameChar _ _ refl h
 
@@ -127,23 +127,25 @@ module _ (L : Limits) where
         (leads-append L (gap-leads ms u) (leads-append L (gap-name ms x i) (leads-append L (eq-leads ms m y v) (quoted-leads L p n ms m w))))
 
     pub close-leads :
-      {ms : List (List ℕ)} {t u : List ℕ}
-      → Attributes L ms t
-      → Each blank u
-      → Leads L (State.tag p n) (t ++ (u ++ (62 ∷ []))) (opens n ∷ []) (State.at (opened p n) b0)
+        {ms : List (List ℕ)} {t u : List ℕ}
+        → Attributes L ms t
+        → Each blank u
+        → Leads L (State.tag p n) (t ++ (u ++ (62 ∷ []))) (opens n ∷ []) (State.at (opened p n) b0)
     close-leads {ms} g e =
         leads-append L (atts-lead g)
         (blanks-then L (attsAs ms) (State.gap p n ms) (atts-end ms .space) (gap-end ms .space) 62 e (atts-end ms .close) (gap-end ms .close))
 
     pub slashed-leads :
-      {u : List ℕ} (ms : List (List ℕ)) → Each blank u → Leads L (attsAs ms) (u ++ (47 ∷ [])) [] (thenByte 62 (opens n ∷ closes n ∷ []) (State.at (emptied p) b0))
+        {u : List ℕ} (ms : List (List ℕ))
+        → Each blank u
+        → Leads L (attsAs ms) (u ++ (47 ∷ [])) [] (thenByte 62 (opens n ∷ closes n ∷ []) (State.at (emptied p) b0))
     slashed-leads ms e = blanks-then L (attsAs ms) (State.gap p n ms) (atts-end ms .space) (gap-end ms .space) 47 e (atts-end ms .slash) (gap-end ms .slash)
 
     pub slash-leads :
-      {ms : List (List ℕ)} {t u : List ℕ}
-      → Attributes L ms t
-      → Each blank u
-      → Leads L (State.tag p n) (t ++ (u ++ (47 ∷ 62 ∷ []))) (opens n ∷ closes n ∷ []) (State.at (emptied p) b0)
+        {ms : List (List ℕ)} {t u : List ℕ}
+        → Attributes L ms t
+        → Each blank u
+        → Leads L (State.tag p n) (t ++ (u ++ (47 ∷ 62 ∷ []))) (opens n ∷ closes n ∷ []) (State.at (emptied p) b0)
     slash-leads {ms} {u = u} g e =
         leads-append L (atts-lead g)
         (subst (λ z. Leads L (attsAs ms) z (opens n ∷ closes n ∷ []) (State.at (emptied p) b0)) (append-assoc u (47 ∷ []) (62 ∷ []))

@@ -20,7 +20,8 @@ use Rattle.xml.specs.Refused.{misplaced, nested, longName}
 use Rattle.xml.specs.Grammar.{Limits, Ev, opens, closes, Br, b0, Name, name, STag, stag, EmptyElemTag, etag, Symbol, element′, content′, Derives}
 use Rattle.xml.specs.Grammar.{element, empty, data′, child, refer, Misc, Mark, Decl, decl, Prolog, prolog, Document, document}
 use Rattle.xml.specs.Machine.{Place, State, goes, opened, up, emptied, begins, pick, step, stands, run}
-use Rattle.reading.specs.Leads.{pickArms, past, check-true, Leads, stay, byte, leads-append, leads-quiet, leads-run, one, by-class, by-word, refer-leads}
+use Rattle.reading.specs.Leads.{pickArms, past, check-true, Leads, stay, byte, leads-append, leads-quiet, leads-run, one, by-class, by-word}
+use Rattle.reading.specs.Leads.{refer-leads}
 use Rattle.reading.specs.Leads.Data.{comment-leads, run-leads, data-amper}
 use Rattle.reading.specs.Leads.Tags.{name-first, grow-leads, tag-grows, close-leads, slash-leads, ctag-leads}
 use Rattle.reading.specs.Leads.Declaration.{decl-leads}
@@ -48,10 +49,10 @@ module _ (L : Limits) where
       }
 
   gate-before :
-    (j m : State) (f : (b : ℕ) → In nameStart b → step L m b ≡ begins L Place.before b)
-    → step L j 60 ≡ goes [] m
-    → step L m 33 ≡ goes [] (State.bang Place.before)
-    → Gate Place.before [] j
+      (j m : State) (f : (b : ℕ) → In nameStart b → step L m b ≡ begins L Place.before b)
+      → step L j 60 ≡ goes [] m
+      → step L m 33 ≡ goes [] (State.bang Place.before)
+      → Gate Place.before [] j
   gate-before j m f e g =
       record {
         door = m;
@@ -96,22 +97,22 @@ module _ (L : Limits) where
       let c′ = derives-leads c in
       let f′ = derives-leads f in
       λ n ns e.
-        leads-append L (c′ n ns e)
-        (leads-quiet L (f′ (Place.inside n ns) (n ∷ ns) (State.at (Place.inside n ns) j) e (gate-inside n ns j)) (run-leads L n ns r))
+      leads-append L (c′ n ns e)
+      (leads-quiet L (f′ (Place.inside n ns) (n ∷ ns) (State.at (Place.inside n ns) j) e (gate-inside n ns j)) (run-leads L n ns r))
   derives-leads (refer {j = j} {k = k} c f r) =
       let c′ = derives-leads c in
       λ n ns e.
-        leads-quiet L (c′ n ns e)
-        (leads-append L
-        (refer-leads L (State.at (Place.inside n ns) j) (State.at (Place.inside n ns) b0) (data-amper L n ns j) f)
-        (run-leads L n ns r))
+      leads-quiet L (c′ n ns e)
+      (leads-append L
+      (refer-leads L (State.at (Place.inside n ns) j) (State.at (Place.inside n ns) b0) (data-amper L n ns j) f)
+      (run-leads L n ns r))
   derives-leads (Derives.remarked {j = j} {k = k} c f r) =
       let c′ = derives-leads c in
       λ n ns e.
-        leads-append L (c′ n ns e)
-        (leads-append L
-        (comment-leads L (Place.inside n ns) (State.at (Place.inside n ns) j) (gate-inside n ns j .door) (gate-inside n ns j .less) (gate-inside n ns j .bangs) f)
-        (run-leads L n ns r))
+      leads-append L (c′ n ns e)
+      (leads-append L
+      (comment-leads L (Place.inside n ns) (State.at (Place.inside n ns) j) (gate-inside n ns j .door) (gate-inside n ns j .less) (gate-inside n ns j .bangs) f)
+      (run-leads L n ns r))
 
   -- the document element has not begun, and nothing but a byte order mark and a declaration need have been read
   pub record Prior (j : State) : Type 0 where
