@@ -26,7 +26,7 @@ use Rattle.xml.specs.Chars.{utf8}
 use Rattle.xml.specs.Refused.{notChar, otherEntity}
 use Rattle.xml.specs.Grammar.{Limits, Ev, entities, Each, Char, narrow, wide, Reference, reference}
 use Rattle.xml.specs.Machine.{State, Outcome, goes, Arms, stop, oneOf, lit, on, check, arms, settle, pick, step, stands, given, next, run}
-use Rattle.reading.specs.Left.{left, none-of, waiting-back}
+use Rattle.reading.specs.Left.{left, none-of, filled-none, waiting-back}
 
 unfoldable pub pickArms : Bool → Arms → Arms → Arms
 pickArms true a b = a
@@ -84,11 +84,6 @@ unfolding firsts
 in-firsts {b} (this {rs = rs} (place {c = c} t h)) = in-append-l c (firsts rs) b (t .holds)
 in-firsts (that {r = []} h) = in-firsts h
 in-firsts {b} (that {r = c ∷ r} {rs = rs} h) = in-append-r c (firsts rs) b (in-firsts h)
-
-filled-none : (rs : Rows) → T (filled rs) → OneOf rs [] → ⊥
-unfolding filled
-filled-none ([] ∷ rs) t h = t
-filled-none ((c ∷ r) ∷ rs) t (that h) = filled-none rs t h
 
 apart-none : (c : Class) (r : Row) (rs : Rows) → T (apartFrom (c ∷ r) rs) → OneOf rs [] → ⊥
 unfolding apartFrom apart

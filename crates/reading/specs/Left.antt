@@ -5,7 +5,7 @@
 --   left-snoc            one byte more
 --   left-sound, left-waiting    rows that are sound stay so, and what is left waits where something is to come
 --   waiting-back         if what is left waits, so do the rows
---   none-left            sound rows that spell nothing are none
+--   none-left            sound rows that spell nothing are none;  filled-none: rows of which none is empty do not spell the empty text
 --
 -- Assumes nothing. NOT here: rows and one byte (crate xml, Class.Laws).
 use Prim.Native.Nat.{ℕ}
@@ -46,6 +46,11 @@ none-of h = go h refl
     go : {rs : Rows} {w : List ℕ} → OneOf rs w → rs ≡ [] → ⊥
     go (this h) e = cons≢nil e
     go (that h) e = cons≢nil e
+
+pub filled-none : (rs : Rows) → T (filled rs) → OneOf rs [] → ⊥
+unfolding filled
+filled-none ([] ∷ rs) t h = t
+filled-none ((c ∷ r) ∷ rs) t (that h) = filled-none rs t h
 
 -- what is spelled by nothing has no row
 pub none-left : (rs : Rows) → T (sound rs) → ((v : List ℕ) → OneOf rs v → ⊥) → rs ≡ []

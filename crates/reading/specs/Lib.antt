@@ -8,3 +8,5 @@ pub mod Earliest
 pub mod Another
 pub mod Within
 pub mod Examples
+pub mod Fails
+pub mod Table

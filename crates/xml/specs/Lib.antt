@@ -7,3 +7,4 @@ pub mod Limited
 pub mod Machine
 pub mod Unfinished
 pub mod Sentences
+pub mod Table

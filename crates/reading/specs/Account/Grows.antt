@@ -27,6 +27,10 @@ module _ (L : Limits) where
   pub moveAt : {p : Place} {k : Br} {t u : List ℕ} {es fs : List Ev} → At L p k t es → t ≡ u → es ≡ fs → At L p k u fs
   moveAt {p} {k} {t} {u} {es} {fs} h e f = subst (λ z. At L p k u z) f (subst (λ z. At L p k z es) e h)
 
+  -- nothing but a byte order mark has been read
+  pub at-mark : {t : List ℕ} → Mark t → At L Place.before b0 t []
+  at-mark {t} m = moveAt (before (prolog m Grammar.Decl.none Misc.none)) (append-nil t) refl
+
   pub at-note : {p : Place} {k : Br} {t u : List ℕ} {es : List Ev} → At L p k t es → Comment u → At L p b0 (t ++ u) (plus es (remarks p))
   at-note (before (prolog m d x)) c = moveAt (before (prolog m d (Misc.remarked x c))) (simp append-assoc) refl
   at-note (inside o x) c = moveAt (inside o (Derives.remarked x c Run.none)) (simp (append-assoc, append-nil)) (simp append-assoc)

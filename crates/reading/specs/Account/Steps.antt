@@ -19,15 +19,15 @@ use Rattle.xml.specs.Chars.{blank, nameStart, quote}
 use Rattle.xml.specs.Refused
 use Rattle.xml.specs.Grammar
 use Rattle.xml.specs.Grammar.{Limits, Ev, Br, b0, b1, b2, Part, version, encoding, standalone, Each, narrow, S, s, Eq, eq, Remarked, Run, Value, name}
-use Rattle.xml.specs.Grammar.{ctag, Misc, Mark, Decl, Told, begun, prolog}
+use Rattle.xml.specs.Grammar.{ctag, Mark, Told, begun}
 use Rattle.xml.specs.Machine
 use Rattle.xml.specs.Machine.{Place, State, Outcome, refused, goes, Arms, stop, oneOf, lit, on, check, greater, partArm, toldEnd, apieceEnd, arms}
 use Rattle.xml.specs.Machine.{settle, pick, step}
 use Rattle.xml.specs.Unfinished.{Late, At, before, inside, after, Fits, tag, InTag, attribute, quoting, InDecl}
 use Rattle.reading.specs.Left.{left, left-snoc, left-back, left-sound}
 use Rattle.reading.specs.Account.{plus, partFirst, partRest, Refers, Reads, Due, Begun, After}
-use Rattle.reading.specs.Account.Grows.{moveAt, at-space-before, at-space-after, at-open, at-close, at-grow, tag-more, att-more, no-attributes}
-use Rattle.reading.specs.Account.Grows.{s-more, s-each, eq-more, value-char, value-end, blank-late, greater-late}
+use Rattle.reading.specs.Account.Grows.{moveAt, at-mark, at-space-before, at-space-after, at-open, at-close, at-grow, tag-more, att-more}
+use Rattle.reading.specs.Account.Grows.{no-attributes, s-more, s-each, eq-more, value-char, value-end, blank-late, greater-late}
 use Rattle.reading.specs.Account.Done.{move, begun-done, due-waiting, begun-waiting}
 
 module _ (L : Limits) where
@@ -173,17 +173,14 @@ module _ (L : Limits) where
       {o : Option Part} {k : Part} {t u : List ℕ} (q : Bool) → InDecl o k t → Eq u → Reach ((t ++ u) ++ (quote q ∷ [])) [] (Machine.partQuote k q)
   quote-owed q i e = dues (Due.value q i e) (simp append-assoc)
 
-  bare : {t : List ℕ} → Mark t → At L Place.before b0 t []
-  bare {t} m = moveAt L (before (prolog m Decl.none Misc.none)) (append-nil t) refl
-
   first-owed : {t : List ℕ} → Mark t → Owed t [] (arms L State.fresh)
   first-owed {t} m =
-      (λ b h. onto (After.at (at-space-before L (bare m) h) (blank-late t h)), (onto (After.opening m), tt))
+      (λ b h. onto (After.at (at-space-before L (at-mark L m) h) (blank-late t h)), (onto (After.opening m), tt))
 
   owed : {t : List ℕ} {es : List Ev} {k : State} → After L t es k → Owed t es (arms L k)
   owed After.start = (dues Due.mark refl, first-owed Mark.none)
   owed After.fresh = first-owed Mark.mark
-  owed (After.opening m) = (dues (Due.xml m) (simp append-assoc), markup-owed (bare m))
+  owed (After.opening m) = (dues (Due.xml m) (simp append-assoc), markup-owed (at-mark L m))
   owed (After.declared m) =
       (λ b h. onto (move L (After.apiece m begun (s Each.none h)) (simp append-assoc)), (λ b h. refuses, (λ b h. refuses, tt)))
   owed (After.rows h y) = rest h

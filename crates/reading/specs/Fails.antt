@@ -1,0 +1,98 @@
+-- Where a spelling breaks off: a byte with which what has come goes on as none of the rows.
+--
+--   left-fails, first-fails, fails-left     what is left of the rows after that byte is nothing
+--   fails-character            a form of UTF-8 that breaks off behind its first byte breaks off as a Char
+--   unlike-character           so does a byte that is none of a class, nor some few others, where the class and these are all of ASCII
+--
+-- Assumes nothing.
+use Prim.Native.Nat.{ℕ, _<_}
+use native.Mathlib.Omega.{arith}
+use mathlib.Core.Path.{_≡_, refl, sym, ap, subst}
+use mathlib.Core.Bool.{Bool, true, false, not, _||_}
+use mathlib.Core.List.{List, [], _∷_, _++_, cons≢nil, tail}
+use lib.Dec.{T}
+use Rattle.xml.specs.Class.{Rows, inClass, In, OneOf, this, that, Spells, end, place, derive, sound, waiting}
+use Rattle.xml.specs.Class.Laws.{derive-back, derive-on, derive-sound, some-spelling, waiting-filled}
+use Rattle.xml.specs.Chars.{utf8}
+use Rattle.xml.specs.Sentences.{Fails}
+use Rattle.xml.specs.Table.{ascii, character}
+use Rattle.reading.specs.Left.{left, left-back, left-on, left-sound, none-of, filled-none, none-left, left-waiting}
+use Rattle.reading.specs.Within.{Within, here, there, in-within, allBelow, all-below}
+
+some-longer : (rs : Rows) (w : List ℕ) → T (waiting (left w rs)) → (c : ℕ) × (v : List ℕ) × OneOf rs (w ++ (c ∷ v))
+some-longer rs w u = let (v, o) = some-spelling (left w rs) u in go v o
+  where
+    go : (v : List ℕ) → OneOf (left w rs) v → (c : ℕ) × (v : List ℕ) × OneOf rs (w ++ (c ∷ v))
+    go [] o = absurd (filled-none (left w rs) (waiting-filled (left w rs) u) o)
+    go (c ∷ v) o = (c, v, left-back w rs o)
+
+pub left-fails : (rs : Rows) (w : List ℕ) (b : ℕ) → T (waiting (left w rs)) → derive b (left w rs) ≡ [] → Fails rs w b
+left-fails rs w b u e =
+    record {
+      begins = some-longer rs w u;
+      stuck = λ v o. none-of (subst (λ z. OneOf z v) e (derive-on (left-on w rs (b ∷ v) o)));
+    }
+
+-- at its first byte
+pub first-fails : (rs : Rows) (b : ℕ) → T (waiting rs) → derive b rs ≡ [] → Fails rs [] b
+unfolding left
+first-fails rs b u e = left-fails rs [] b u e
+
+pub fails-waiting : (rs : Rows) (w : List ℕ) (b : ℕ) → T (sound rs) → Fails rs w b → T (waiting (left w rs))
+fails-waiting rs w b t f = let (c, v, o) = f .begins in left-waiting (left w rs) c v (left-sound w rs t) (left-on w rs (c ∷ v) o)
+
+pub fails-left : (rs : Rows) (w : List ℕ) (b : ℕ) → T (sound rs) → Fails rs w b → derive b (left w rs) ≡ []
+fails-left rs w b t f =
+    none-left (derive b (left w rs)) (derive-sound b (left w rs) (left-sound w rs t))
+    (λ v o. f .stuck v (left-back w rs (derive-back b (left w rs) o)))
+
+space-character : OneOf character (32 ∷ [])
+unfolding inClass
+space-character = this (place (record { holds = tt }) end)
+
+-- an ASCII Char is one byte
+ascii-one : {b c : ℕ} {v : List ℕ} → Spells (ascii ∷ []) (b ∷ c ∷ v) → ⊥
+ascii-one h = go h refl
+  where
+    go : {w : List ℕ} {b c : ℕ} {v : List ℕ} → Spells (ascii ∷ []) w → w ≡ b ∷ c ∷ v → ⊥
+    go (place h end) e = cons≢nil (sym (ap tail e))
+
+wide-form : {b c : ℕ} {v : List ℕ} → OneOf character (b ∷ c ∷ v) → OneOf utf8 (b ∷ c ∷ v)
+wide-form (this h) = absurd (ascii-one h)
+wide-form (that h) = h
+
+snoc-longer : (b : ℕ) (w : List ℕ) (c : ℕ) (v : List ℕ) → OneOf character (b ∷ (w ++ (c ∷ v))) → OneOf utf8 (b ∷ (w ++ (c ∷ v)))
+snoc-longer b [] c v h = wide-form h
+snoc-longer b (d ∷ w) c v h = wide-form h
+
+pub fails-character : (b : ℕ) (w : List ℕ) (c : ℕ) → Fails utf8 (b ∷ w) c → Fails character (b ∷ w) c
+fails-character b w c f =
+    record { begins = (f .begins .0, f .begins .1, that (f .begins .2)); stuck = λ v h. f .stuck v (snoc-longer b w c v h) }
+
+pub character-fails : (b : ℕ) (w : List ℕ) (c : ℕ) → Fails character (b ∷ w) c → Fails utf8 (b ∷ w) c
+character-fails b w c f =
+    record { begins = (f .begins .0, f .begins .1, snoc-longer b w _ _ (f .begins .2)); stuck = λ v h. f .stuck v (that h) }
+
+implies : (x y : Bool) → T (not x || y) → T x → T y
+implies true y t u = t
+implies false y t u = absurd u
+
+ascii-below : {b : ℕ} → Within ascii b → b < 128
+ascii-below (here l h) = omega arith
+ascii-below (there (here l h)) = omega arith
+ascii-below (there (there (here l h))) = omega arith
+
+ascii-passes : (p : ℕ → Bool) → T (allBelow 128 (λ b. not (inClass ascii b) || p b)) → (b : ℕ) → In ascii b → T (p b)
+ascii-passes p t b h = implies (inClass ascii b) (p b) (all-below 128 (λ b. not (inClass ascii b) || p b) t b (ascii-below (in-within h))) (h .holds)
+
+pub unlike-character :
+    (p : ℕ → Bool) → T (allBelow 128 (λ b. not (inClass ascii b) || p b)) → (b : ℕ) → p b ≡ false → derive b utf8 ≡ [] → Fails character [] b
+unlike-character p t b e f =
+    record {
+      begins = (32, [], space-character);
+      stuck = λ v h. none v h;
+    }
+  where
+    none : (v : List ℕ) → OneOf character (b ∷ v) → ⊥
+    none v (this (place h end)) = subst T e (ascii-passes p t b h)
+    none v (that h) = none-of (subst (λ z. OneOf z v) f (derive-on h))
