@@ -18,6 +18,7 @@ use Rattle.xml.specs.Class.{In}
 use Rattle.xml.specs.Class.Laws.{and-l, and-r}
 use Rattle.xml.specs.Chars.{nameChar}
 use Rattle.xml.specs.Grammar.{sameName, among}
+use Rattle.reading.specs.Last.{last, last-snoc}
 use Rattle.reading.specs.Within.{here, there, within-in}
 
 count : (ℕ → Bool) → ℕ → ℕ
@@ -74,17 +75,6 @@ same-name [] (b ∷ u) h = absurd h
 same-name (a ∷ t) [] h = absurd h
 same-name (a ∷ t) (b ∷ u) h = ap₂ _∷_ (eqb→eq a b (and-l (eqb a b) _ h)) (same-name t u (and-r (eqb a b) _ h))
 
-lastOf : List ℕ → ℕ
-lastOf [] = 0
-lastOf (b ∷ []) = b
-lastOf (b ∷ c ∷ t) = lastOf (c ∷ t)
-
-last-is : (t : List ℕ) (b : ℕ) → lastOf (t ++ (b ∷ [])) ≡ b
-unfolding lastOf
-last-is [] b = refl
-last-is (c ∷ []) b = refl
-last-is (c ∷ d ∷ t) b = last-is (d ∷ t) b
-
 -- m, and the i-th small letter behind it
 abbrev longer : List ℕ → ℕ → List ℕ
 longer m i = m ++ ((97 + i) ∷ [])
@@ -92,7 +82,7 @@ longer m i = m ++ ((97 + i) ∷ [])
 taken-once : (m k : List ℕ) (i j : ℕ) → T (sameName (longer m i) k) → T (sameName (longer m j) k) → i ≡ j
 taken-once m k i j h g =
     let e : longer m i ≡ longer m j = same-name _ k h ∙ sym (same-name _ k g) in
-    let z : 97 + i ≡ 97 + j = sym (last-is m (97 + i)) ∙ ap lastOf e ∙ last-is m (97 + j) in
+    let z : 97 + i ≡ 97 + j = sym (last-snoc m (97 + i)) ∙ ap last e ∙ last-snoc m (97 + j) in
     omega arith
 
 taken-few : (m : List ℕ) (ms : List (List ℕ)) (n : ℕ) → count (λ i. among (longer m i) ms) n ≤ length ms

@@ -14,8 +14,8 @@ use mathlib.Core.Path.{_≡_, refl, sym, ap, _∙_, subst}
 use mathlib.Core.Logic.{_⊎_, inl, inr, _↔_}
 use mathlib.Core.Bool.{Bool, true, false, not}
 use mathlib.Core.List.{List, [], _∷_, _++_, append-assoc, append-nil, cons≢nil, tail}
-use lib.Dec.{T, leb, leb→le, le→leb}
-use lib.ListN.{length, length-append}
+use lib.Dec.{T, leb, leb→le, le→leb, T-not}
+use lib.ListN.{length}
 use Rattle.choice.specs.When.{when-either}
 use Rattle.meaning.specs.Limits.Laws.{depth-is}
 use Rattle.xml.specs.Class.{inClass}
@@ -26,6 +26,7 @@ use Rattle.xml.specs.Grammar.{Limits, Ev, b0, among, Each, name, Document}
 use Rattle.xml.specs.Machine.{Place, State, Outcome, refused, goes, check, step, pick, run, Result, stopped, stands, given, next}
 use Rattle.xml.specs.Unfinished.{InAtt, attribute}
 use Rattle.xml.specs.Sentences.{Begins, RefusedAt, Spent, spent}
+use Rattle.reading.specs.Last.{length-snoc}
 use Rattle.reading.specs.Cut.{cut-anywhere, onward, run-byte}
 use Rattle.reading.specs.Account.Sound.{run-account}
 use Rattle.reading.specs.Leads.{leads-run}
@@ -126,14 +127,7 @@ unfolding check
 check-stuck true r o f = absurd (f tt)
 check-stuck false r o f = stuck
 
-not-not : (x : Bool) → T x → T (not x) → ⊥
-not-not true t u = u
-not-not false t u = t
-
 module _ (L : Limits) where
-  length-next : (m : List ℕ) (b : ℕ) → length (m ++ (b ∷ [])) ≡ suc (length m)
-  length-next m b = simp length-append (omega arith)
-
   spent-step :
       (p : Place) (n : List ℕ) (ms : List (List ℕ)) (m : List ℕ) (b : ℕ)
       → T (among m ms)
@@ -141,9 +135,9 @@ module _ (L : Limits) where
       → Stuck (step L (State.att p n ms m) b)
   unfolding step pick
   spent-step p n ms m b x f =
-      when-either Stuck (inClass _ b) _ _ (check-stuck _ _ _ (λ t. f (subst (λ z. T (L .name z)) (length-next m b) t)))
-      (when-either Stuck (inClass _ b) _ _ (check-stuck _ _ _ (not-not (among m ms) x))
-      (when-either Stuck _ _ _ (check-stuck _ _ _ (not-not (among m ms) x)) (when-either Stuck (inClass _ b) _ _ stuck stuck)))
+      when-either Stuck (inClass _ b) _ _ (check-stuck _ _ _ (λ t. f (subst (λ z. T (L .name z)) (length-snoc m b) t)))
+      (when-either Stuck (inClass _ b) _ _ (check-stuck _ _ _ (λ t. T-not (among m ms) t x))
+      (when-either Stuck _ _ _ (check-stuck _ _ _ (λ t. T-not (among m ms) t x)) (when-either Stuck (inClass _ b) _ _ stuck stuck)))
 
   -- whatever comes, a spent text is refused at it
   spent-refused : (t : List ℕ) (b : ℕ) → Spent L t → (r : ℕ) × RefusedAt L r t b
@@ -173,7 +167,7 @@ module _ (L : Limits) where
     name-begins {m = m} {ms = ms} t es true true e f h (attribute g u l j) =
         let z : suc (length ms) ≤ 26 = few (suc (length ms)) l in
         let (c, k, w) = another m ms 26 (omega arith) in
-        let a : T (L .name (length (m ++ ((97 + c) ∷ [])))) = subst (λ z. T (L .name z)) (sym (length-next m (97 + c))) (subst T (sym f) tt) in
+        let a : T (L .name (length (m ++ ((97 + c) ∷ [])))) = subst (λ z. T (L .name z)) (sym (length-snoc m (97 + c))) (subst T (sym f) tt) in
         inl (living-begins t es _ h (grown-alive L one-open one-name (attribute g u l j) (Each.more Each.none (small-letter c k)) a w))
 
     stands-begins : (t : List ℕ) → Stands L t → Begins L t ⊎ Spent L t

@@ -2,18 +2,19 @@
 --
 --   left-fails, first-fails, fails-left     what is left of the rows after that byte is nothing
 --   fails-character            a form of UTF-8 that breaks off behind its first byte breaks off as a Char
+--   data-unlike, note-unlike, value-unlike    a byte that no case but the last one of a state of characters meets, and that begins no form of UTF-8
 --   unlike-character           so does a byte that is none of a class, nor some few others, where the class and these are all of ASCII
 --
 -- Assumes nothing.
 use Prim.Native.Nat.{ℕ, _<_}
 use native.Mathlib.Omega.{arith}
-use mathlib.Core.Path.{_≡_, refl, sym, ap, subst}
+use mathlib.Core.Path.{_≡_, refl, sym, ap, _∙_, subst}
 use mathlib.Core.Bool.{Bool, true, false, not, _||_}
 use mathlib.Core.List.{List, [], _∷_, _++_, cons≢nil, tail}
-use lib.Dec.{T}
+use lib.Dec.{T, eqb}
 use Rattle.xml.specs.Class.{Rows, inClass, In, OneOf, this, that, Spells, end, place, derive, sound, waiting}
 use Rattle.xml.specs.Class.Laws.{derive-back, derive-on, derive-sound, some-spelling, waiting-filled}
-use Rattle.xml.specs.Chars.{utf8}
+use Rattle.xml.specs.Chars.{utf8, noDash, plain, unquoted, quote}
 use Rattle.xml.specs.Sentences.{Fails}
 use Rattle.xml.specs.Table.{ascii, character}
 use Rattle.reading.specs.Left.{left, left-back, left-on, left-sound, none-of, filled-none, none-left, left-waiting}
@@ -82,10 +83,10 @@ ascii-below (here l h) = omega arith
 ascii-below (there (here l h)) = omega arith
 ascii-below (there (there (here l h))) = omega arith
 
-ascii-passes : (p : ℕ → Bool) → T (allBelow 128 (λ b. not (inClass ascii b) || p b)) → (b : ℕ) → In ascii b → T (p b)
+pub ascii-passes : (p : ℕ → Bool) → T (allBelow 128 (λ b. not (inClass ascii b) || p b)) → (b : ℕ) → In ascii b → T (p b)
 ascii-passes p t b h = implies (inClass ascii b) (p b) (all-below 128 (λ b. not (inClass ascii b) || p b) t b (ascii-below (in-within h))) (h .holds)
 
-pub unlike-character :
+unlike-character :
     (p : ℕ → Bool) → T (allBelow 128 (λ b. not (inClass ascii b) || p b)) → (b : ℕ) → p b ≡ false → derive b utf8 ≡ [] → Fails character [] b
 unlike-character p t b e f =
     record {
@@ -96,3 +97,46 @@ unlike-character p t b e f =
     none : (v : List ℕ) → OneOf character (b ∷ v) → ⊥
     none v (this (place h end)) = subst T e (ascii-passes p t b h)
     none v (that h) = none-of (subst (λ z. OneOf z v) f (derive-on h))
+
+or-false : {x y : Bool} → x ≡ false → y ≡ false → (x || y) ≡ false
+or-false {x} {y} e f = ap (λ z. z || y) e ∙ f
+
+-- what the cases before the last one of a state of characters meet
+abbrev pub inData : ℕ → Bool
+inData b = inClass plain b || (eqb b 93 || (eqb b 62 || (eqb b 60 || eqb b 38)))
+
+abbrev pub inNote : ℕ → Bool
+inNote b = inClass noDash b || eqb b 45
+
+abbrev inValue : Bool → ℕ → Bool
+inValue q b = inClass (unquoted q) b || (eqb b (quote q) || (eqb b 38 || eqb b 60))
+
+pub data-all : T (allBelow 128 (λ b. not (inClass ascii b) || inData b))
+unfolding allBelow inClass
+data-all = tt
+
+pub note-all : T (allBelow 128 (λ b. not (inClass ascii b) || inNote b))
+unfolding allBelow inClass
+note-all = tt
+
+value-all : (q : Bool) → T (allBelow 128 (λ b. not (inClass ascii b) || inValue q b))
+unfolding allBelow inClass
+value-all true = tt
+value-all false = tt
+
+pub data-unlike :
+    (b : ℕ)
+    → (inClass plain b ≡ false) × (eqb b 93 ≡ false) × (eqb b 62 ≡ false) × (eqb b 60 ≡ false) × (eqb b 38 ≡ false)
+    → derive b utf8 ≡ []
+    → Fails character [] b
+data-unlike b x e = unlike-character inData data-all b (or-false (x .0) (or-false (x .1) (or-false (x .2) (or-false (x .3) (x .4))))) e
+
+pub note-unlike : (b : ℕ) → (inClass noDash b ≡ false) × (eqb b 45 ≡ false) → derive b utf8 ≡ [] → Fails character [] b
+note-unlike b x e = unlike-character inNote note-all b (or-false (x .0) (x .1)) e
+
+pub value-unlike :
+    (q : Bool) (b : ℕ)
+    → (inClass (unquoted q) b ≡ false) × (eqb b (quote q) ≡ false) × (eqb b 38 ≡ false) × (eqb b 60 ≡ false)
+    → derive b utf8 ≡ []
+    → Fails character [] b
+value-unlike q b x e = unlike-character (inValue q) (value-all q) b (or-false (x .0) (or-false (x .1) (or-false (x .2) (x .3)))) e

@@ -17,7 +17,7 @@ use Prim.Native.Nat.{ℕ}
 use mathlib.Core.Path.{_≡_, refl, sym, ap, _∙_, subst}
 use mathlib.Core.Bool.{Bool, true, false, not, _||_}
 use mathlib.Core.List.{List, [], _∷_, _++_, append-assoc, append-nil}
-use lib.Dec.{T, eqb, eqb→eq}
+use lib.Dec.{T, eqb, eqb→eq, T-not}
 use Rattle.choice.specs.When.{when-true, when-false}
 use Rattle.xml.specs.Class.{Class, Row, Rows, inRange, inClass, In, OneOf, this, that, derive, word, words, place, disjoint, disjointRanges, outOf}
 use Rattle.xml.specs.Class.{apart, apartFrom, allApart, filled, someRow, sound, waiting}
@@ -38,17 +38,13 @@ past c (oneOf rs r es k) = oneOf rs r es k
 past c (lit n o a) = pickArms (not (inClass c n)) (past c a) (lit n o a)
 past c (on d f a) = pickArms (disjoint d c) (past c a) (on d f a)
 
-pickArms-past : (x : Bool) (a a′ : Arms) (b : ℕ) → (T x → pick a′ b ≡ pick a b) → pick a′ b ≡ pick (pickArms x a a′) b
+pub pickArms-past : (x : Bool) (a a′ : Arms) (b : ℕ) → (T x → pick a′ b ≡ pick a b) → pick a′ b ≡ pick (pickArms x a a′) b
 unfolding pickArms
 pickArms-past true a a′ b f = f tt
 pickArms-past false a a′ b f = refl
 
-T-clash : (x : Bool) → T (not x) → T x → ⊥
-T-clash true p q = p
-T-clash false p q = q
-
 not-lit : (c : Class) (b n : ℕ) → In c b → T (not (inClass c n)) → eqb b n ≡ false
-not-lit c b n h t = T-false _ (λ e. T-clash (inClass c n) t (subst (λ z. T (inClass c z)) (eqb→eq b n e) (h .holds)))
+not-lit c b n h t = T-false _ (λ e. T-not (inClass c n) t (subst (λ z. T (inClass c z)) (eqb→eq b n e) (h .holds)))
 
 pub pick-past : (c : Class) (a : Arms) (b : ℕ) → In c b → pick a b ≡ pick (past c a) b
 unfolding past pick

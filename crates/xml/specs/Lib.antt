@@ -8,3 +8,4 @@ pub mod Machine
 pub mod Unfinished
 pub mod Sentences
 pub mod Table
+pub mod Wording

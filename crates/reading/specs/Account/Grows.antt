@@ -21,6 +21,7 @@ use Rattle.xml.specs.Grammar.{prolog, document}
 use Rattle.xml.specs.Machine.{Place, opened, up, emptied, remarks}
 use Rattle.xml.specs.Unfinished.{Late, Open, first, deeper, At, before, inside, after, Fits, InName, tag, InTag, attributed, InAtt, attribute}
 use Rattle.xml.specs.Unfinished.{InValue, quoting}
+use Rattle.reading.specs.Last.{last, last-snoc}
 use Rattle.reading.specs.Account.{plus}
 
 module _ (L : Limits) where
@@ -167,23 +168,11 @@ module _ (L : Limits) where
   open-name (first x p g) = stag-name g
   open-name (deeper x o c g) = stag-name g
 
--- the last byte, or 0
-lastByte : List ℕ → ℕ
-lastByte [] = 0
-lastByte (b ∷ []) = b
-lastByte (b ∷ c ∷ t) = lastByte (c ∷ t)
-
-last-snoc : (t : List ℕ) (b : ℕ) → lastByte (t ++ (b ∷ [])) ≡ b
-unfolding lastByte
-last-snoc [] b = refl
-last-snoc (c ∷ []) b = refl
-last-snoc (c ∷ d ∷ t) b = last-snoc (d ∷ t) b
-
 abbrev markEnds : Class
 markEnds = only 0 ∷ only 191 ∷ []
 
-mark-ends : {t : List ℕ} → Mark t → T (inClass markEnds (lastByte t))
-unfolding lastByte inClass
+mark-ends : {t : List ℕ} → Mark t → T (inClass markEnds (last t))
+unfolding last inClass
 mark-ends Mark.none = tt
 mark-ends Mark.mark = tt
 

@@ -8,18 +8,18 @@
 --
 -- Assumes nothing. NOT here: where a tag may begin (Leads.Whole), values (Leads.Data).
 use Prim.Native.Nat.{ℕ, suc}
-use native.Mathlib.Omega.{arith}
 use mathlib.Core.Path.{_≡_, refl, sym, _∙_, subst}
 use mathlib.Core.Bool.{not}
 use mathlib.Core.List.{List, [], _∷_, _++_, append-assoc, append-nil}
 use lib.Dec.{T}
-use lib.ListN.{length, length-append}
+use lib.ListN.{length}
 use Rattle.choice.specs.When.{when}
 use Rattle.xml.specs.Class.{inClass, In, word, disjoint, disjointRanges, outOf}
 use Rattle.xml.specs.Chars.{blank, nameStart, nameChar}
 use Rattle.xml.specs.Refused.{longName, manyAttributes, twice, otherEnd}
 use Rattle.xml.specs.Grammar.{Limits, opens, closes, Br, b0, among, Each, S, Eq, eq, Name, name, Attributes, ETag, ctag}
 use Rattle.xml.specs.Machine.{Place, State, goes, opened, up, emptied, longer, pick, step, thenByte}
+use Rattle.reading.specs.Last.{length-snoc}
 use Rattle.reading.specs.Leads.{pickArms, past, check-true, Leads, stay, byte, leads-append, one, by-class, by-word, each-leads}
 use Rattle.reading.specs.Leads.Data.{byte-leads, quoted-leads, s-leads, blanks-then}
 
@@ -27,9 +27,6 @@ module _ (L : Limits) where
   pub name-first : (b : ℕ) (t : List ℕ) → T (L .name (length (b ∷ t))) → T (L .name 1)
   name-first b [] h = h
   name-first b (c ∷ t) h = name-first b t (L .name-down _ h)
-
-  length-snoc : (n : List ℕ) (b : ℕ) → length (n ++ (b ∷ [])) ≡ suc (length n)
-  length-snoc n b = simp length-append (omega arith)
 
   pub grow-leads :
       {t : List ℕ} (f : List ℕ → State) (n : List ℕ)

@@ -10,70 +10,28 @@
 use Prim.Native.Nat.{ℕ, suc}
 use native.Mathlib.Omega.{arith}
 use mathlib.Core.Path.{_≡_, refl, sym, ap, _∙_, subst}
-use mathlib.Core.Bool.{Bool, true, false, not, _||_}
+use mathlib.Core.Bool.{Bool, true, false, not}
 use mathlib.Core.Option.{Option, none, some}
 use mathlib.Core.List.{List, [], _∷_, _++_, append-assoc, append-nil, cons≢nil}
 use lib.Dec.{T, eqb, eqb→eq}
-use lib.ListN.{length, length-append}
+use lib.ListN.{length}
 use Rattle.choice.specs.When.{when-known, never}
 use Rattle.xml.specs.Class.{Rows, inClass, In, derive}
-use Rattle.xml.specs.Chars.{nameStart, beyond, utf8, noDash, plain, unquoted, quote}
+use Rattle.xml.specs.Chars.{nameStart, beyond, plain}
 use Rattle.xml.specs.Refused
 use Rattle.xml.specs.Grammar.{Limits, Ev, entities, Br, b0, b1, b2, among, Part, version, encoding, standalone, name}
 use Rattle.xml.specs.Machine
 use Rattle.xml.specs.Machine.{Place, State, Outcome, refused, goes, Arms, stop, oneOf, lit, on, check, greater, partArm, arms, settle, pick, step}
 use Rattle.xml.specs.Unfinished.{Late, At, before, inside, after, InValue}
 use Rattle.xml.specs.Sentences.{Fails}
-use Rattle.xml.specs.Table.{ascii, character, NameByte, Texted, Referring, Refusal}
+use Rattle.xml.specs.Table.{character, NameByte, Texted, Referring, Refusal}
 use Rattle.xml.specs.Table
-use Rattle.reading.specs.Within.{here, there, in-within, within-in, allBelow}
-use Rattle.reading.specs.Fails.{left-fails, first-fails, fails-character, unlike-character}
+use Rattle.reading.specs.Last.{length-snoc}
+use Rattle.reading.specs.Within.{here, there, in-within, within-in}
+use Rattle.reading.specs.Fails.{data-unlike, note-unlike, value-unlike, left-fails, first-fails, fails-character}
 use Rattle.reading.specs.Account.Grows.{at-mark}
 use Rattle.reading.specs.Account.Done.{reads-waiting}
 use Rattle.reading.specs.Account.{Refers, Reads, Due, Begun, After}
-
-or-false : {x y : Bool} → x ≡ false → y ≡ false → (x || y) ≡ false
-or-false {x} {y} e f = ap (λ z. z || y) e ∙ f
-
--- what the cases before the last one of a state of characters meet
-abbrev inData : ℕ → Bool
-inData b = inClass plain b || (eqb b 93 || (eqb b 62 || (eqb b 60 || eqb b 38)))
-
-abbrev inNote : ℕ → Bool
-inNote b = inClass noDash b || eqb b 45
-
-abbrev inValue : Bool → ℕ → Bool
-inValue q b = inClass (unquoted q) b || (eqb b (quote q) || (eqb b 38 || eqb b 60))
-
-data-all : T (allBelow 128 (λ b. not (inClass ascii b) || inData b))
-unfolding allBelow inClass
-data-all = tt
-
-note-all : T (allBelow 128 (λ b. not (inClass ascii b) || inNote b))
-unfolding allBelow inClass
-note-all = tt
-
-value-all : (q : Bool) → T (allBelow 128 (λ b. not (inClass ascii b) || inValue q b))
-unfolding allBelow inClass
-value-all true = tt
-value-all false = tt
-
-data-unlike :
-    (b : ℕ)
-    → (inClass plain b ≡ false) × (eqb b 93 ≡ false) × (eqb b 62 ≡ false) × (eqb b 60 ≡ false) × (eqb b 38 ≡ false)
-    → derive b utf8 ≡ []
-    → Fails character [] b
-data-unlike b x e = unlike-character inData data-all b (or-false (x .0) (or-false (x .1) (or-false (x .2) (or-false (x .3) (x .4))))) e
-
-note-unlike : (b : ℕ) → (inClass noDash b ≡ false) × (eqb b 45 ≡ false) → derive b utf8 ≡ [] → Fails character [] b
-note-unlike b x e = unlike-character inNote note-all b (or-false (x .0) (x .1)) e
-
-value-unlike :
-    (q : Bool) (b : ℕ)
-    → (inClass (unquoted q) b ≡ false) × (eqb b (quote q) ≡ false) × (eqb b 38 ≡ false) × (eqb b 60 ≡ false)
-    → derive b utf8 ≡ []
-    → Fails character [] b
-value-unlike q b x e = unlike-character (inValue q) (value-all q) b (or-false (x .0) (or-false (x .1) (or-false (x .2) (x .3)))) e
 
 -- nothing is known of the byte
 abbrev Any : ℕ → Type 0
@@ -119,15 +77,12 @@ module _ (L : Limits) where
   check-said true r o f h = h
   check-said false r o f h = says (f (λ t. t))
 
-  length-next : (m : List ℕ) (b : ℕ) → length (m ++ (b ∷ [])) ≡ suc (length m)
-  length-next m b = simp length-append (omega arith)
-
   -- inside a name, the limit is reached
   longer-said :
       {t : List ℕ} {b : ℕ} (n : List ℕ) (f : List ℕ → State)
       → ((T (L .name (suc (length n))) → ⊥) → Said Refused.longName t b)
       → Spoken t b (Machine.longer L n f b)
-  longer-said {b = b} n f h = check-said _ _ _ (λ g. h (λ y. g (subst (λ z. T (L .name z)) (sym (length-next n b)) y))) goes′
+  longer-said {b = b} n f h = check-said _ _ _ (λ g. h (λ y. g (subst (λ z. T (L .name z)) (sym (length-snoc n b)) y))) goes′
 
   amper-said : {t : List ℕ} {es : List Ev} {k : State} → Refers L t es k → Referring L t
   amper-said (Refers.data′ a) = Referring.data′ a

@@ -5,17 +5,17 @@
 --   sentence-given      each sentence's refusal is given
 --
 -- Assumes nothing. NOT here: the other way round (Table.Explained).
-use Prim.Native.Nat.{ℕ, suc, _≤_}
+use Prim.Native.Nat.{ℕ, suc}
 use native.Mathlib.Omega.{arith}
 use mathlib.Core.Path.{_≡_, refl, sym, ap, _∙_, subst}
 use mathlib.Core.Logic.{_⊎_, inl, inr, ⊎-elim}
-use mathlib.Core.Bool.{Bool, true, false, not, _&&_, _||_}
+use mathlib.Core.Bool.{Bool, true, false}
 use mathlib.Core.List.{List, [], _∷_, _++_, append-assoc, append-nil}
-use lib.Dec.{T, leb, leb→le, eqb, eqb→eq}
-use lib.ListN.{length, length-append}
+use lib.Dec.{T, eqb, eqb→eq, T-not}
+use lib.ListN.{length}
 use Rattle.choice.specs.When.{when, when-false}
-use Rattle.xml.specs.Class.{Range, Class, Rows, inClass, In, this, that, place, end, derive, disjoint, outOf, disjointRanges}
-use Rattle.xml.specs.Class.Laws.{and-l, and-r, or-case, T-false, waiting-sound}
+use Rattle.xml.specs.Class.{Class, Rows, inClass, In, this, that, place, end, derive, disjoint, outOf, disjointRanges}
+use Rattle.xml.specs.Class.Laws.{T-false, waiting-sound}
 use Rattle.xml.specs.Chars.{blank, nameStart, nameChar, beyond, utf8}
 use Rattle.xml.specs.Refused
 use Rattle.xml.specs.Grammar.{Limits, Ev, entities, Br, b0, among, Mark}
@@ -24,42 +24,18 @@ use Rattle.xml.specs.Unfinished.{Late, At, before, inside, after}
 use Rattle.xml.specs.Sentences.{Fails, RefusedAt}
 use Rattle.xml.specs.Table.{ascii, character, NameByte, Texted, Referring, Refusal}
 use Rattle.xml.specs.Table
+use Rattle.reading.specs.Last.{length-snoc}
 use Rattle.reading.specs.Left.{left}
-use Rattle.reading.specs.Within.{Within, here, there, in-within, within-in}
+use Rattle.reading.specs.Within.{partOf, holds, part-within, Within, here, there, in-within, within-in}
 use Rattle.reading.specs.Fails.{fails-waiting, fails-left, character-fails}
 use Rattle.reading.specs.Account.{Refers, Reads, Due, Begun, After}
 use Rattle.reading.specs.Account.Done.{begun-waiting, reads-waiting}
 use Rattle.reading.specs.Account.Sound.{run-account}
-use Rattle.reading.specs.Leads.{pickArms, past, leads-run, by-class}
+use Rattle.reading.specs.Leads.{pickArms-past, pickArms, past, leads-run, by-class}
 use Rattle.reading.specs.Leads.Tags.{tag-grows, att-grows}
 use Rattle.reading.specs.Leads.Whole.{prolog-leads}
 use Rattle.reading.specs.Leads.Accounts.{after-leads, reads-leads}
 use Rattle.reading.specs.Earliest.{step-refused}
-
--- some range of the class holds the whole range
-unfoldable pub holds : Class → Range → Bool
-holds [] r = false
-holds (q ∷ c) r = (leb (q .lo) (r .lo) && leb (r .hi) (q .hi)) || holds c r
-
-unfoldable pub partOf : Class → Class → Bool
-partOf [] c = true
-partOf (r ∷ d) c = holds c r && partOf d c
-
-holds-within : (c : Class) (r : Range) (b : ℕ) → T (holds c r) → r .lo ≤ b → b ≤ r .hi → Within c b
-unfolding holds
-holds-within (q ∷ c) r b t l h =
-    ⊎-elim
-    (λ u.
-    let x : q .lo ≤ r .lo = leb→le _ _ (and-l (leb (q .lo) (r .lo)) _ u) in
-    let y : r .hi ≤ q .hi = leb→le _ _ (and-r (leb (q .lo) (r .lo)) _ u) in
-    here (omega arith) (omega arith))
-    (λ u. there (holds-within c r b u l h))
-    (or-case (leb (q .lo) (r .lo) && leb (r .hi) (q .hi)) (holds c r) t)
-
-part-within : (c d : Class) (b : ℕ) → T (partOf d c) → Within d b → Within c b
-unfolding partOf
-part-within c (r ∷ d) b t (here l h) = holds-within c r b (and-l (holds c r) _ t) l h
-part-within c (r ∷ d) b t (there h) = part-within c d b (and-r (holds c r) _ t) h
 
 unfoldable pub beside : Class → Arms → Arms
 beside c (stop r) = stop r
@@ -67,30 +43,21 @@ beside c (oneOf rs r es k) = oneOf rs r es k
 beside c (lit n o a) = pickArms (inClass c n) (beside c a) (lit n o a)
 beside c (on d f a) = pickArms (partOf d c) (beside c a) (on d f a)
 
-pickArms-beside : (x : Bool) (a a′ : Arms) (b : ℕ) → (T x → pick a′ b ≡ pick a b) → pick a′ b ≡ pick (pickArms x a a′) b
-unfolding pickArms
-pickArms-beside true a a′ b f = f tt
-pickArms-beside false a a′ b f = refl
-
 pick-beside : (c : Class) (a : Arms) (b : ℕ) → (In c b → ⊥) → pick a b ≡ pick (beside c a) b
 unfolding beside pick
 pick-beside c (stop r) b h = refl
 pick-beside c (oneOf rs r es k) b h = refl
 pick-beside c (lit n o a) b h =
-    pickArms-beside (inClass c n) (beside c a) (lit n o a) b
+    pickArms-past (inClass c n) (beside c a) (lit n o a) b
     (λ t. when-false _ o _ (T-false _ (λ e. h (record { holds = subst (λ z. T (inClass c z)) (sym (eqb→eq b n e)) t }))) ∙ pick-beside c a b h)
 pick-beside c (on d f a) b h =
-    pickArms-beside (partOf d c) (beside c a) (on d f a) b
+    pickArms-past (partOf d c) (beside c a) (on d f a) b
     (λ t. when-false _ (f b) _ (T-false _ (λ u. h (within-in (part-within c d b t (in-within (record { holds = u })))))) ∙ pick-beside c a b h)
 
 check-false : (x : Bool) (r : ℕ) (o : Outcome) → (T x → ⊥) → check x r o ≡ refused r
 unfolding check
 check-false true r o f = absurd (f tt)
 check-false false r o f = refl
-
-not-doubted : (x : Bool) → T x → T (not x) → ⊥
-not-doubted true t u = u
-not-doubted false t u = t
 
 module _ (L : Limits) where
   -- an account, and a step that is refused
@@ -212,14 +179,11 @@ module _ (L : Limits) where
       (λ m. given State.opening (After.opening m) (foreign-opening b h))
       (late-or a)
 
-  length-next : (m : List ℕ) (b : ℕ) → length (m ++ (b ∷ [])) ≡ suc (length m)
-  length-next m b = simp length-append (omega arith)
-
   longer-given :
       (b : ℕ) (m : List ℕ) (o : Outcome)
       → (T (L .name (suc (length m))) → ⊥)
       → check (L .name (length (m ++ (b ∷ [])))) Refused.longName o ≡ refused Refused.longName
-  longer-given b m o f = check-false _ _ o (λ t. f (subst (λ z. T (L .name z)) (length-next m b) t))
+  longer-given b m o f = check-false _ _ o (λ t. f (subst (λ z. T (L .name z)) (length-snoc m b) t))
 
   equals-or : {b : ℕ} → In (Rattle.xml.specs.Class.only 61 ∷ blank) b → (b ≡ 61) ⊎ In blank b
   equals-or h = go (in-within h)
@@ -247,8 +211,8 @@ module _ (L : Limits) where
   sentence-given (Refusal.twice {p = p} {n = n} {m = m} {ms = ms} {b = b} i x h) =
       given (State.att p n ms m) (After.att i)
       (⊎-elim
-      (λ e. ap (step L (State.att p n ms m)) e ∙ check-false _ _ _ (not-doubted (among m ms) x))
-      (λ y. by-class L (State.att p n ms m) blank _ _ refl y ∙ check-false _ _ _ (not-doubted (among m ms) x))
+      (λ e. ap (step L (State.att p n ms m)) e ∙ check-false _ _ _ (λ t. T-not (among m ms) t x))
+      (λ y. by-class L (State.att p n ms m) blank _ _ refl y ∙ check-false _ _ _ (λ t. T-not (among m ms) t x))
       (equals-or h))
   sentence-given (Refusal.otherEnd {t = t} {w = w} a f) = same (fails-given (Begun.due (Due.end a)) f) (append-assoc t (60 ∷ 47 ∷ []) w)
   sentence-given (Refusal.longerEnd {n = n} {ns = ns} a (NameByte.plain h)) =
