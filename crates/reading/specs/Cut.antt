@@ -2,10 +2,12 @@
 --
 --   onward r f u       go on from the result r with the text u
 --   cut-anywhere       run (t ++ u) is run t and then run u
+--   stopped-after      what has been read before a refused byte is read without refusal, with the same events
 --   run-byte           the same for a last byte: its outcome behind what came of the text before it
 --
 -- Assumes nothing.
 use Prim.Native.Nat.{ℕ}
+use native.Mathlib.Omega.{arith}
 use mathlib.Core.Path.{_≡_, refl, sym, ap, _∙_}
 use mathlib.Core.List.{List, [], _∷_, _++_, append-assoc}
 use Rattle.xml.specs.Grammar.{Limits, Ev}
@@ -49,3 +51,33 @@ module _ (L : Limits) where
       (t : List ℕ) (b : ℕ) (es : List Ev) (j k : State) → run L t j ≡ stands es k → run L (t ++ (b ∷ [])) j ≡ given es (next (step L k b) (run L []) (b ∷ []))
   unfolding run
   run-byte t b es j k e = cut-anywhere t (b ∷ []) j ∙ ap (λ z. onward z (run L (b ∷ [])) (b ∷ [])) e
+
+  -- what has been read before the refused byte
+  abbrev Before : List ℕ → State → List Ev → List ℕ → Type 0
+  Before t k es v = (u : List ℕ) × (j : State) × (t ≡ u ++ v) × (run L u k ≡ stands es j)
+
+  next-before :
+      (o : Outcome) (b : ℕ) (t v : List ℕ) (k : State) (es : List Ev) (r : ℕ)
+      → step L k b ≡ o
+      → next o (run L t) (b ∷ t) ≡ stopped es r v
+      → ((j : State) (fs : List Ev) (r : ℕ) (v : List ℕ) → run L t j ≡ stopped fs r v → Before t j fs v)
+      → Before (b ∷ t) k es v
+  unfolding next run given
+  next-before (refused q) b t v k es r f e h =
+      let x : es ≡ [] = cc in
+      let y : b ∷ t ≡ v = cc in
+      ([], k, y, ap (λ z. stands z k) (sym x))
+  next-before (goes fs j) b t v k es r f e h = go (run L t j) refl e
+    where
+      go : (q : Result) → run L t j ≡ q → given fs q ≡ stopped es r v → Before (b ∷ t) k es v
+      go (stands gs i) e′ e = let z : _≡_ {A = ℕ} 0 1 = cc in absurd (omega arith)
+      go (stopped gs q w) e′ e =
+          let (u, i, x, y) = h j gs q w e′ in
+          let a : fs ++ gs ≡ es = cc in
+          let c : w ≡ v = cc in
+          (b ∷ u, i, ap (λ z. b ∷ z) (x ∙ ap (λ z. u ++ z) c), ap (λ z. next z (run L u) (b ∷ u)) f ∙ ap (given fs) y ∙ ap (λ z. stands z i) a)
+
+  pub stopped-after : (t : List ℕ) (k : State) (es : List Ev) (r : ℕ) (v : List ℕ) → run L t k ≡ stopped es r v → Before t k es v
+  unfolding run
+  stopped-after [] k es r v e = let z : _≡_ {A = ℕ} 0 1 = cc in absurd (omega arith)
+  stopped-after (b ∷ t) k es r v e = next-before (step L k b) b t v k es r refl e (λ j fs r v h. stopped-after t j fs r v h)

@@ -26,7 +26,7 @@ use Rattle.xml.specs.Grammar.{Limits, Ev, b0, among, Each, name, Document}
 use Rattle.xml.specs.Machine.{Place, State, Outcome, refused, goes, check, step, pick, run, Result, stopped, stands, given, next}
 use Rattle.xml.specs.Unfinished.{InAtt, attribute}
 use Rattle.xml.specs.Sentences.{Begins, RefusedAt, Spent, spent}
-use Rattle.reading.specs.Last.{length-snoc}
+use Rattle.reading.specs.Last.{length-snoc, snoc-some}
 use Rattle.reading.specs.Cut.{cut-anywhere, onward, run-byte}
 use Rattle.reading.specs.Account.Sound.{run-account}
 use Rattle.reading.specs.Leads.{leads-run}
@@ -78,10 +78,6 @@ rested L (b ∷ t) k = next-rest (step L k b) (run L t) b t (rested L t)
 
 rest-some : {es : List Ev} {r : ℕ} {v : List ℕ} → Rest (stopped es r v) → v ≡ [] → ⊥
 rest-some stays e = cons≢nil e
-
-snoc-some : (v : List ℕ) (b : ℕ) → v ++ (b ∷ []) ≡ [] → ⊥
-snoc-some [] b e = cons≢nil e
-snoc-some (c ∷ v) b e = cons≢nil e
 
 -- a byte behind a text that is refused is never the refused one
 short-rest : (v : List ℕ) (b : ℕ) → v ++ (b ∷ []) ≡ b ∷ [] → (v ≡ [] → ⊥) → ⊥

@@ -2,6 +2,7 @@
 --
 --   init, last             the list without its last element, and that element (or 0)
 --   init-snoc, last-snoc, length-snoc      what they are, and the length, with one element more
+--   snoc-some              a list with an element at its end is not empty
 --   snoc-same              lists that end alike are alike before their ends
 --   Ended t                t is empty, or ends in an element;  ended: each list does one of the two
 --
@@ -9,7 +10,7 @@
 use Prim.Native.Nat.{ℕ, suc}
 use native.Mathlib.Omega.{arith}
 use mathlib.Core.Path.{_≡_, refl, sym, ap, _∙_, subst}
-use mathlib.Core.List.{List, [], _∷_, _++_, append-assoc, append-nil}
+use mathlib.Core.List.{List, [], _∷_, _++_, append-assoc, append-nil, cons≢nil}
 use lib.ListN.{length, length-append}
 
 unfoldable pub init : List ℕ → List ℕ
@@ -36,6 +37,10 @@ last-snoc (c ∷ d ∷ t) b = last-snoc (d ∷ t) b
 
 pub length-snoc : (t : List ℕ) (b : ℕ) → length (t ++ (b ∷ [])) ≡ suc (length t)
 length-snoc t b = simp length-append (omega arith)
+
+pub snoc-some : (v : List ℕ) (b : ℕ) → v ++ (b ∷ []) ≡ [] → ⊥
+snoc-some [] b e = cons≢nil e
+snoc-some (c ∷ v) b e = cons≢nil e
 
 pub snoc-same : (t u : List ℕ) (b c : ℕ) → t ++ (b ∷ []) ≡ u ++ (c ∷ []) → (t ≡ u) × (b ≡ c)
 snoc-same t u b c e = (sym (init-snoc t b) ∙ ap init e ∙ init-snoc u c, sym (last-snoc t b) ∙ ap last e ∙ last-snoc u c)
