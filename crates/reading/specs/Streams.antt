@@ -65,9 +65,11 @@ two-bytes n = omega arith
 named-record : (e : Event) (d : Doc) → T (isNamed e d) → (bs : List ℕ) × Records bs e
 unfolding isNamed
 named-record (stream.opens n) d t =
-    (recordBytes 1 n, subst (λ m. Records (recordBytes 1 n) (stream.opens m)) (two-bytes n) (open-record (subst Number (sym (two-bytes n)) (name-exactly n .0 t))))
+    let k : Number (256 * (n / 256) + n % 256) = subst Number (sym (two-bytes n)) (name-exactly n .0 t) in
+    (recordBytes 1 n, subst (λ m. Records (recordBytes 1 n) (stream.opens m)) (two-bytes n) (open-record k))
 named-record (stream.closes n) d t =
-    (recordBytes 2 n, subst (λ m. Records (recordBytes 2 n) (stream.closes m)) (two-bytes n) (close-record (subst Number (sym (two-bytes n)) (name-exactly n .0 t))))
+    let k : Number (256 * (n / 256) + n % 256) = subst Number (sym (two-bytes n)) (name-exactly n .0 t) in
+    (recordBytes 2 n, subst (λ m. Records (recordBytes 2 n) (stream.closes m)) (two-bytes n) (close-record k))
 
 -- two events of one record are one
 same-event : (bs : List ℕ) (e e′ : Event) → Records bs e → Records bs e′ → e ≡ e′
