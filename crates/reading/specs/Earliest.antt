@@ -10,10 +10,10 @@
 use Prim.Native.Nat.{ℕ, suc, _+_, _≤_}
 use native.Mathlib.Omega.{arith}
 use native.Mathlib.Decide.{ℕ-discrete}
-use mathlib.Core.Path.{_≡_, refl, sym, ap, _∙_, subst}
+use mathlib.Core.Path.{_≡_, refl, sym, _∙_, subst}
 use mathlib.Core.Logic.{_⊎_, inl, inr, _↔_}
 use mathlib.Core.Bool.{Bool, true, false, not}
-use mathlib.Core.List.{List, [], _∷_, _++_, append-assoc, append-nil, cons≢nil, tail}
+use mathlib.Core.List.{List, [], _∷_, _++_, append-assoc, append-nil}
 use lib.Dec.{T, leb, leb→le, le→leb, T-not}
 use lib.ListN.{length}
 use Rattle.choice.specs.When.{when-either}
@@ -23,96 +23,17 @@ use Rattle.xml.specs.Bounds.{nameLimit, attributeLimit, nestLimit}
 use Rattle.xml.specs.Bounds.Laws.{name-limit-is, attribute-limit-is}
 use Rattle.xml.specs.Limited.{bounds}
 use Rattle.xml.specs.Grammar.{Limits, Ev, b0, among, Each, name, Document}
-use Rattle.xml.specs.Machine.{Place, State, Outcome, refused, goes, check, step, pick, run, Result, stopped, stands, given, next}
+use Rattle.xml.specs.Machine.{Place, State, Outcome, refused, goes, check, step, pick, run, stands}
 use Rattle.xml.specs.Unfinished.{InAtt, attribute}
 use Rattle.xml.specs.Sentences.{Begins, RefusedAt, Spent, spent}
-use Rattle.reading.specs.Last.{length-snoc, snoc-some}
-use Rattle.reading.specs.Cut.{cut-anywhere, onward, run-byte}
+use Rattle.reading.specs.Last.{length-snoc}
+use Rattle.reading.specs.Refusing.{Stands, Came, stood, stopped′, came, never-both, refused-stands, step-refused, step-goes}
 use Rattle.reading.specs.Account.Sound.{run-account}
 use Rattle.reading.specs.Leads.{leads-run}
 use Rattle.reading.specs.Leads.Accounts.{att-reached}
 use Rattle.reading.specs.Leads.Whole.{document-accepted}
 use Rattle.reading.specs.Another.{another, small-letter}
 use Rattle.reading.specs.Early.{Alive, Standing, living, naming, standing, grown-alive, new-alive, alive-document, refused-none}
-
--- the reader goes through the text
-pub record Stands (L : Limits) (t : List ℕ) : Type 0 where
-  pub evs : List Ev
-  pub state : State
-  pub reads : run L t State.start ≡ stands evs state
-
--- each result is one of the two
-pub data Came (L : Limits) (t : List ℕ) (k : State) : Type 0 where
-  stood : (es : List Ev) (j : State) → run L t k ≡ stands es j → Came L t k
-  stopped′ : (es : List Ev) (r : ℕ) (v : List ℕ) → run L t k ≡ stopped es r v → Came L t k
-
-pub came : (L : Limits) (t : List ℕ) (k : State) → Came L t k
-came L t k = go (run L t k) refl
-  where
-    go : (r : Result) → run L t k ≡ r → Came L t k
-    go (stopped es r v) e = stopped′ es r v e
-    go (stands es j) e = stood es j e
-
-pub never-both : {A : Type 0} {es fs : List Ev} {k : State} {r : ℕ} {v : List ℕ} → stands es k ≡ stopped fs r v → A
-never-both e = let z : _≡_ {A = ℕ} 0 1 = cc in absurd (omega arith)
-
--- what is refused is a byte, and what stands behind it
-data Rest : Result → Type 0 where
-  went : {es : List Ev} {k : State} → Rest (stands es k)
-  stays : {es : List Ev} {r c : ℕ} {v : List ℕ} → Rest (stopped es r (c ∷ v))
-
-given-rest : (es : List Ev) {r : Result} → Rest r → Rest (given es r)
-unfolding given
-given-rest es went = went
-given-rest es stays = stays
-
-next-rest : (o : Outcome) (f : State → Result) (b : ℕ) (t : List ℕ) → ((k : State) → Rest (f k)) → Rest (next o f (b ∷ t))
-unfolding next
-next-rest (refused r) f b t h = stays
-next-rest (goes es k) f b t h = given-rest es (h k)
-
-rested : (L : Limits) (t : List ℕ) (k : State) → Rest (run L t k)
-unfolding run
-rested L [] k = went
-rested L (b ∷ t) k = next-rest (step L k b) (run L t) b t (rested L t)
-
-rest-some : {es : List Ev} {r : ℕ} {v : List ℕ} → Rest (stopped es r v) → v ≡ [] → ⊥
-rest-some stays e = cons≢nil e
-
--- a byte behind a text that is refused is never the refused one
-short-rest : (v : List ℕ) (b : ℕ) → v ++ (b ∷ []) ≡ b ∷ [] → (v ≡ [] → ⊥) → ⊥
-short-rest [] b e f = f refl
-short-rest (c ∷ v) b e f = snoc-some v b (ap tail e)
-
--- where a byte is refused, the text before it is not
-pub refused-stands : (L : Limits) (r : ℕ) (t : List ℕ) (b : ℕ) → RefusedAt L r t b → Stands L t
-refused-stands L r t b h = go (came L t State.start)
-  where
-    go : Came L t State.start → Stands L t
-    go (stood es k e) = record { evs = es; state = k; reads = e }
-    go (stopped′ es q v e) =
-        let x : stopped es q (v ++ (b ∷ [])) ≡ stopped (h .evs) r (b ∷ []) =
-        sym (cut-anywhere L t (b ∷ []) State.start ∙ ap (λ z. onward L z (run L (b ∷ [])) (b ∷ [])) e) ∙ h .refuses in
-        absurd (short-rest v b (cc) (rest-some (subst Rest e (rested L t State.start))))
-
--- a refused step is a refused byte
-pub step-refused :
-    (L : Limits) (r : ℕ) (t : List ℕ) (b : ℕ) (es : List Ev) (k : State)
-    → run L t State.start ≡ stands es k
-    → step L k b ≡ refused r
-    → RefusedAt L r t b
-unfolding next given
-step-refused L r t b es k e f =
-    record { evs = es ++ []; refuses = run-byte L t b es State.start k e ∙ ap (λ z. given es (next z (run L []) (b ∷ []))) f }
-
-pub step-goes :
-    (L : Limits) (t : List ℕ) (b : ℕ) (es fs : List Ev) (j k : State)
-    → run L t State.start ≡ stands es k
-    → step L k b ≡ goes fs j
-    → Stands L (t ++ (b ∷ []))
-unfolding next given run
-step-goes L t b es fs j k e f =
-    record { evs = es ++ (fs ++ []); state = j; reads = run-byte L t b es State.start k e ∙ ap (λ z. given es (next z (run L []) (b ∷ []))) f }
 
 -- an outcome that is a refusal
 pub data Stuck : Outcome → Type 0 where

@@ -3,6 +3,7 @@ pub mod Within
 pub mod Left
 pub mod Account
 pub mod Cut
+pub mod Refusing
 pub mod Leads
 pub mod Exactly
 pub mod Another

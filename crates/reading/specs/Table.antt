@@ -23,7 +23,8 @@ use Rattle.xml.specs.Sentences.{Begins, RefusedAt, Spent}
 use Rattle.xml.specs.Table.{Refusal}
 use Rattle.reading.specs.Cut.{run-byte}
 use Rattle.reading.specs.Account.Sound.{run-account}
-use Rattle.reading.specs.Earliest.{Stands, refused-stands, never-both, earliest, one-open, one-name}
+use Rattle.reading.specs.Refusing.{Stands, refused-stands, never-both}
+use Rattle.reading.specs.Earliest.{earliest, one-open, one-name}
 use Explained.{Said, other, said, Spoken, goes′, says, step-said}
 use Given.{sentence-given}
 

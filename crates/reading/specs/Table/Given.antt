@@ -35,7 +35,7 @@ use Rattle.reading.specs.Leads.{pickArms-past, pickArms, past, leads-run
 use Rattle.reading.specs.Leads.Tags.{tag-grows, att-grows}
 use Rattle.reading.specs.Leads.Whole.{prolog-leads}
 use Rattle.reading.specs.Leads.Accounts.{after-leads, reads-leads}
-use Rattle.reading.specs.Earliest.{step-refused}
+use Rattle.reading.specs.Refusing.{step-refused}
 
 unfoldable pub beside : Class → Arms → Arms
 beside c (stop r) = stop r
