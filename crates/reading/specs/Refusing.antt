@@ -67,7 +67,10 @@ no-longer v u b e = let l : length v ≡ length u + suc (length v) = ap length e
 
 module _ (L : Limits) (r : ℕ) (t : List ℕ) (b : ℕ) (v : List ℕ) where
   -- with something behind the byte
-  longer-run : (es : List Ev) (k : State) → run L t State.start ≡ stands es k → run L (t ++ (b ∷ v)) State.start ≡ given es (next (step L k b) (run L v) (b ∷ v))
+  longer-run :
+      (es : List Ev) (k : State)
+      → run L t State.start ≡ stands es k
+      → run L (t ++ (b ∷ v)) State.start ≡ given es (next (step L k b) (run L v) (b ∷ v))
   unfolding run
   longer-run es k e = cut-anywhere L t (b ∷ v) State.start ∙ ap (λ z. onward L z (run L (b ∷ v)) (b ∷ v)) e
 
