@@ -2,8 +2,8 @@
 --
 --   onward r f u       go on from the result r with the text u
 --   cut-anywhere       run (t ++ u) is run t and then run u
---   stopped-after      what has been read before a refused byte is read without refusal, with the same events
 --   run-byte           the same for a last byte: its outcome behind what came of the text before it
+--   stopped-after      what has been read before a refused byte is read without refusal, with the same events
 --
 -- Assumes nothing.
 use Prim.Native.Nat.{ℕ}

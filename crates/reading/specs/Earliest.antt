@@ -1,10 +1,9 @@
 -- A refusal comes at the first byte with which no text that is read goes on.
 --
---   goes-on             a text is read without refusal exactly if it begins a document, or is spent
---   earliest-within     it is refused at a byte exactly if it goes on without this byte, and with it does not
---   spent-stops         a spent text begins no document, and is refused at whatever byte comes
---   earliest, spent-stops       the same for the reader's own limits
---   spent-long          where a spent text ends in a name of 64 bytes
+--   goes-on                     a text is read without refusal exactly if it begins a document, or is spent
+--   earliest-within             it is refused at a byte exactly if it goes on without this byte, and with it does not
+--   spent-stops-within          a spent text begins no document, and is refused at whatever byte comes
+--   earliest, spent-stops       the same for the reader's own limits;  spent-long: where a spent text ends in a name of 64 bytes
 --
 -- Assumes nothing of the reader's own limits; of others that one element may be open, a name may have one byte, and a tag at most 26 attributes.
 use Prim.Native.Nat.{ℕ, suc, _+_, _≤_}

@@ -2,8 +2,8 @@
 --
 --   left-fails, first-fails, fails-left     what is left of the rows after that byte is nothing
 --   fails-character            a form of UTF-8 that breaks off behind its first byte breaks off as a Char
---   data-unlike, note-unlike, value-unlike    a byte that no case but the last one of a state of characters meets, and that begins no form of UTF-8
---   unlike-character           so does a byte that is none of a class, nor some few others, where the class and these are all of ASCII
+--   unlike-character           so does a byte that begins no form of UTF-8 and fails a test that all of ASCII passes
+--   data-unlike, note-unlike, value-unlike    in character data, in a comment and in a value the cases before the last one are such a test
 --
 -- Assumes nothing.
 use Prim.Native.Nat.{ℕ, _<_}

@@ -2,6 +2,7 @@
 --
 --   character             [2] Char, as rows of bytes
 --   NameByte b            "a byte of a name, or one of 128 or more"
+--   Takes p               the document element may stand at the place p, or an element inside it, whatever the depth
 --   Texted t              t ends "in character data, a comment or an attribute's value", between two Chars
 --   Referring t           t ends "in character data or a value", between two Chars or references
 --   Refusal L r t b       the sentence of the refusal r holds where b comes after t, for r from 31 to 43
@@ -33,10 +34,9 @@ pub data NameByte : ℕ → Type 0 where
   plain : {b : ℕ} → In nameChar b → NameByte b
   foreign : {b : ℕ} → In beyond b → NameByte b
 
--- an element may stand here
-pub data Stands : Place → Type 0 where
-  before : Stands Place.before
-  inside : {n : List ℕ} {ns : List (List ℕ)} → Stands (Place.inside n ns)
+pub data Takes : Place → Type 0 where
+  before : Takes Place.before
+  inside : {n : List ℕ} {ns : List (List ℕ)} → Takes (Place.inside n ns)
 
 module _ (L : Limits) where
   pub data Texted : List ℕ → Type 0 where
@@ -127,7 +127,7 @@ module _ (L : Limits) where
     foreignTag :
         {p : Place} {k : Br} {t : List ℕ} {b : ℕ} {es : List Ev}
         → At L p k t es
-        → Stands p
+        → Takes p
         → In beyond b
         → Refusal Refused.foreignName (t ++ (60 ∷ [])) b
     foreignInTag : {p : Place} {n t : List ℕ} {b : ℕ} {es : List Ev} → InName L p n t es → In beyond b → Refusal Refused.foreignName t b

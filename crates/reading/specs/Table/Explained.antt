@@ -129,8 +129,8 @@ module _ (L : Limits) where
     slashed-said Place.after = says other
 
     foreign-said : {p : Place} {k : Br} {t : List ℕ} {es : List Ev} → At L p k t es → (b : ℕ) → In beyond b → Spoken (t ++ (60 ∷ [])) b (Machine.foreign p)
-    foreign-said (before p) b h = says (said (Refusal.foreignTag (before p) Table.Stands.before h))
-    foreign-said (inside o c) b h = says (said (Refusal.foreignTag (inside o c) Table.Stands.inside h))
+    foreign-said (before p) b h = says (said (Refusal.foreignTag (before p) Table.Takes.before h))
+    foreign-said (inside o c) b h = says (said (Refusal.foreignTag (inside o c) Table.Takes.inside h))
     foreign-said (after d) b h = says other
 
     markup-said :

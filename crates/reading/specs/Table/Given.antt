@@ -158,7 +158,7 @@ module _ (L : Limits) where
   late-or (inside o c) = inl Late.inside
   late-or (after d) = inl Late.after
 
-  foreign-markup : (p : Place) (b : ℕ) → Table.Stands p → In beyond b → step L (State.markup p) b ≡ refused Refused.foreignName
+  foreign-markup : (p : Place) (b : ℕ) → Table.Takes p → In beyond b → step L (State.markup p) b ≡ refused Refused.foreignName
   unfolding past pickArms disjoint outOf disjointRanges inClass
   foreign-markup Place.before b x h = by-class L (State.markup Place.before) beyond _ _ refl h
   foreign-markup (Place.inside n ns) b x h = by-class L (State.markup (Place.inside n ns)) beyond _ _ refl h
@@ -170,7 +170,7 @@ module _ (L : Limits) where
   foreign-given :
       {p : Place} {k : Br} {t : List ℕ} {es : List Ev} {b : ℕ}
       → At L p k t es
-      → Table.Stands p
+      → Table.Takes p
       → In beyond b
       → RefusedAt L Refused.foreignName (t ++ (60 ∷ [])) b
   foreign-given {p} {t = t} {b = b} a x h =
