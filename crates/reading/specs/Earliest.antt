@@ -13,14 +13,12 @@ use mathlib.Core.Path.{_≡_, refl, sym, _∙_, subst}
 use mathlib.Core.Logic.{_⊎_, inl, inr, _↔_}
 use mathlib.Core.Bool.{Bool, true, false, not}
 use mathlib.Core.List.{List, [], _∷_, _++_, append-assoc, append-nil}
-use lib.Dec.{T, leb, leb→le, le→leb, T-not}
+use lib.Dec.{T, T-not}
 use lib.ListN.{length}
 use Rattle.choice.specs.When.{when-either}
-use Rattle.meaning.specs.Limits.Laws.{depth-is}
 use Rattle.xml.specs.Class.{inClass}
-use Rattle.xml.specs.Bounds.{nameLimit, attributeLimit, nestLimit}
-use Rattle.xml.specs.Bounds.Laws.{name-limit-is, attribute-limit-is}
 use Rattle.xml.specs.Limited.{bounds}
+use Rattle.xml.specs.Limited.Laws.{name-taken, atts-taken, nest-taken}
 use Rattle.xml.specs.Grammar.{Limits, Ev, b0, among, Each, name, Document}
 use Rattle.xml.specs.Machine.{Place, State, Outcome, refused, goes, check, step, pick, run, stands}
 use Rattle.xml.specs.Unfinished.{InAtt, attribute}
@@ -150,13 +148,13 @@ module _ (L : Limits) where
 
 -- the reader's own limits
 pub one-open : T (bounds .nest 1)
-one-open = le→leb 1 nestLimit (omega (arith, depth-is))
+one-open = nest-taken 1 .1 (omega arith)
 
 pub one-name : T (bounds .name 1)
-one-name = le→leb 1 nameLimit (omega (arith, name-limit-is))
+one-name = name-taken 1 .1 (omega arith)
 
 few-attributes : (n : ℕ) → T (bounds .atts n) → n ≤ 26
-few-attributes n t = let h : n ≤ attributeLimit = leb→le n attributeLimit t in omega (arith, attribute-limit-is)
+few-attributes n t = omega (arith, atts-taken n .0 t)
 
 pub earliest :
     (t : List ℕ) (b : ℕ)
@@ -166,19 +164,17 @@ earliest = earliest-within bounds one-open one-name few-attributes
 pub spent-stops : (t : List ℕ) → Spent bounds t → (Begins bounds t → ⊥) × ((b : ℕ) → (r : ℕ) × RefusedAt bounds r t b)
 spent-stops = spent-stops-within bounds one-open one-name few-attributes
 
-attribute-name : {p : Place} {n m t : List ℕ} {ms : List (List ℕ)} {es : List Ev} → InAtt bounds p n ms m t es → length m ≤ nameLimit
-attribute-name (attribute g u x (name h e l)) = leb→le _ nameLimit l
+attribute-name : {p : Place} {n m t : List ℕ} {ms : List (List ℕ)} {es : List Ev} → InAtt bounds p n ms m t es → length m ≤ 64
+attribute-name (attribute g u x (name {b = b} {t = t} h e l)) = name-taken (length (b ∷ t)) .0 l
 
 -- the names that may not be longer are those of 64 bytes
 pub spent-long :
     {p : Place} {n m t : List ℕ} {ms : List (List ℕ)} {es : List Ev}
     → InAtt bounds p n ms m t es
     → (T (bounds .name (suc (length m))) → ⊥) ↔ (length m ≡ 64)
-spent-long {m = m} i = (
-  λ f. long (ℕ-discrete (length m) 64) f (attribute-name i),
-  λ e t. let h : suc (length m) ≤ nameLimit = leb→le (suc (length m)) nameLimit t in omega (arith, name-limit-is),
-)
+spent-long {m = m} i =
+    (λ f. long (ℕ-discrete (length m) 64) f (attribute-name i), λ e t. omega (arith, name-taken (suc (length m)) .0 t))
   where
-    long : Dec (length m ≡ 64) → (T (leb (suc (length m)) nameLimit) → ⊥) → length m ≤ nameLimit → length m ≡ 64
+    long : Dec (length m ≡ 64) → (T (bounds .name (suc (length m))) → ⊥) → length m ≤ 64 → length m ≡ 64
     long (yes e) f h = e
-    long (no d) f h = absurd (f (le→leb (suc (length m)) nameLimit (omega (arith, name-limit-is))))
+    long (no d) f h = absurd (f (name-taken (suc (length m)) .1 (omega arith)))

@@ -15,7 +15,6 @@ use mathlib.Core.Path.{_≡_, refl, sym, ap, _∙_, subst}
 use mathlib.Core.Logic.{_⊎_, _↔_}
 use mathlib.Core.List.{List, [], _∷_, _++_}
 use lib.Dec.{T}
-use Rattle.xml.specs.Refused.{misplaced}
 use Rattle.xml.specs.Limited.{bounds}
 use Rattle.xml.specs.Grammar.{Limits, Ev}
 use Rattle.xml.specs.Machine.{State, Outcome, refused, goes, step, stopped, stands, run, given, next}
@@ -88,34 +87,34 @@ module _ (L : Limits) (one-open : T (L .nest 1)) (one-name : T (L .name 1)) wher
       let s : Stands L t = refused-stands L r t b h in
       spoken-said L r (step-said L one-open one-name b (run-account L t (s .evs) (s .state) (s .reads))) (refused-step L r t b (s .evs) (s .state) (s .reads) h)
 
-  unless : {r : ℕ} {t : List ℕ} {b : ℕ} → (r ≡ misplaced → ⊥) → Said L r t b → Refusal L r t b
+  unless : {r : ℕ} {t : List ℕ} {b : ℕ} → (r ≡ 30 → ⊥) → Said L r t b → Refusal L r t b
   unless f other = absurd (f refl)
   unless f (said h) = h
 
-  pub table-exactly : (r : ℕ) (t : List ℕ) (b : ℕ) → (r ≡ misplaced → ⊥) → RefusedAt L r t b ↔ Refusal L r t b
+  pub table-exactly : (r : ℕ) (t : List ℕ) (b : ℕ) → (r ≡ 30 → ⊥) → RefusedAt L r t b ↔ Refusal L r t b
   table-exactly r t b f = (λ h. unless f (refused-said r t b h), sentence-given L)
 
   pub misplaced-exactly :
-      (t : List ℕ) (b : ℕ) → RefusedAt L misplaced t b ↔ (((r : ℕ) × RefusedAt L r t b) × ((r : ℕ) → Refusal L r t b → ⊥))
+      (t : List ℕ) (b : ℕ) → RefusedAt L 30 t b ↔ (((r : ℕ) × RefusedAt L r t b) × ((r : ℕ) → Refusal L r t b → ⊥))
   misplaced-exactly t b = (
     λ h. (
-      (misplaced, h),
-      λ r g. let e : r ≡ misplaced = one-number L r misplaced t b (sentence-given L g) h in let n = sentence-number L g in omega arith,
+      (30, h),
+      λ r g. let e : r ≡ 30 = one-number L r 30 t b (sentence-given L g) h in let n = sentence-number L g in omega arith,
     ),
     λ h. only (h .0 .1) (h .1) (refused-said (h .0 .0) t b (h .0 .1)),
   )
     where
-      only : {r : ℕ} → RefusedAt L r t b → ((r : ℕ) → Refusal L r t b → ⊥) → Said L r t b → RefusedAt L misplaced t b
+      only : {r : ℕ} → RefusedAt L r t b → ((r : ℕ) → Refusal L r t b → ⊥) → Said L r t b → RefusedAt L 30 t b
       only x f other = x
       only x f (said g) = absurd (f _ g)
 
-pub table : (r : ℕ) (t : List ℕ) (b : ℕ) → (r ≡ misplaced → ⊥) → RefusedAt bounds r t b ↔ Refusal bounds r t b
+pub table : (r : ℕ) (t : List ℕ) (b : ℕ) → (r ≡ 30 → ⊥) → RefusedAt bounds r t b ↔ Refusal bounds r t b
 table = table-exactly bounds one-open one-name
 
 -- "no text that is read goes on with this byte, and none of 31 to 43 applies"
 pub misplaced-is :
     (t : List ℕ) (b : ℕ)
-    → RefusedAt bounds misplaced t b
+    → RefusedAt bounds 30 t b
     ↔ (((Begins bounds t ⊎ Spent bounds t) × (Begins bounds (t ++ (b ∷ [])) → ⊥) × (Spent bounds (t ++ (b ∷ [])) → ⊥)) × ((r : ℕ) → Refusal bounds r t b → ⊥))
 misplaced-is t b = (
   λ h. let (x, y) = misplaced-exactly bounds one-open one-name t b .0 h in (earliest t b .0 x, y),

@@ -3,6 +3,7 @@
 --   bounds           names of at most 64 bytes, at most 16 attributes, at most 256 elements inside each other
 --
 -- Assumes nothing. NOT here: the numbers (Bounds).
+pub mod Laws
 use Prim.Native.Nat.{ℕ, suc, _≤_}
 use native.Mathlib.Omega.{arith}
 use lib.Dec.{T, leb, leb→le, le→leb}
