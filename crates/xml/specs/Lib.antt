@@ -3,4 +3,10 @@ pub mod Chars
 pub mod Bounds
 pub mod Refused
 pub mod Grammar
+pub mod Limited
 pub mod Machine
+pub mod Numbered
+pub mod Unfinished
+pub mod Sentences
+pub mod Table
+pub mod Wording
