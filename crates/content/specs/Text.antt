@@ -5,7 +5,7 @@
 --   bangTick, noteTick M r b dash, remarkedTick      "<!--"; a comment, in which '-' leads to the mode `dash`; its '>'
 --   entityTick r b, amperTick r b        a byte of an entity; after '&'
 --
--- M are the marks of the bytes. Assumes nothing. NOT here: that these are the machine's steps (crate reading).
+-- M are the marks of the bytes. Assumes nothing. NOT here: that these are the machine's steps (crate text_right).
 use Prim.Native.Nat.{ℕ, _+_}
 use mathlib.Core.Bool.{Bool}
 use mathlib.Core.List.{List, [], _∷_}

@@ -5,7 +5,7 @@
 --   endedTick M r b           after an end tag's name;  wholeTick M r b: right after it
 --   endTick M r b R           in an end tag's name
 --
--- M are the marks of the bytes, R the room. Assumes nothing. NOT here: that these are the machine's steps (crate reading).
+-- M are the marks of the bytes, R the room. Assumes nothing. NOT here: that these are the machine's steps (crate text_right).
 use Prim.Native.Nat.{ℕ, _+_, _-_}
 use mathlib.Core.List.{List}
 use lib.Dec.{eqb, leb}

@@ -5,7 +5,7 @@
 --   xmlTick, declaredTick    in "<?xml"; after it
 --   queryTick                after the declaration's '?'
 --
--- M are the marks of the bytes. Assumes nothing. NOT here: that these are the machine's steps (crate reading).
+-- M are the marks of the bytes. Assumes nothing. NOT here: that these are the machine's steps (crate text_right).
 use Prim.Native.Nat.{ℕ, _+_}
 use mathlib.Core.List.{List, [], _∷_}
 use lib.Dec.{eqb, leb}

@@ -7,7 +7,7 @@
 --   pieceTick, toldTick                between two parts, after a blank and before one
 --   partTick, partEqualsTick, partValueTick, quotedTick      in a part's name, after it, after its '=', in its value
 --
--- M are the marks of the bytes. Assumes nothing. NOT here: that these are the machine's steps (crate reading).
+-- M are the marks of the bytes. Assumes nothing. NOT here: that these are the machine's steps (crate text_right).
 pub mod Laws
 use Prim.Native.Nat.{ℕ, _+_, _*_, _-_}
 use mathlib.Core.Bool.{not}

@@ -4,7 +4,7 @@
 --   begun, slashedTick                   the first byte of an element's name; the '/' of an end tag
 --   markupTick M r b R, firstTick        after '<'; at the very start of the text
 --
--- M are the marks of the bytes, R the room. Assumes nothing. NOT here: that these are the machine's steps (crate reading).
+-- M are the marks of the bytes, R the room. Assumes nothing. NOT here: that these are the machine's steps (crate text_right).
 use Prim.Native.Nat.{ℕ, _+_}
 use mathlib.Core.List.{List}
 use lib.Dec.{eqb, leb, ltb}

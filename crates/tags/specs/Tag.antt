@@ -7,7 +7,7 @@
 --   equalsTick, valueTick         before its '='; before its value
 --   quotedTick M r b mark q, attEnded      in its value in the quotes q, where the bytes with the mark stay; after it
 --
--- M are the marks of the bytes, R the room. Assumes nothing. NOT here: that these are the machine's steps (crate reading).
+-- M are the marks of the bytes, R the room. Assumes nothing. NOT here: that these are the machine's steps (crate text_right).
 use Prim.Native.Nat.{ℕ, _+_}
 use mathlib.Core.List.{List}
 use lib.Dec.{eqb, leb, ltb}

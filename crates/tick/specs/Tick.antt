@@ -3,7 +3,7 @@
 --   tick M r b R      the reader and its room after the byte b;  tickIn: in a mode
 --   in-mode, in-mode-kept       by the mode that was found, where the room may have changed, and where not
 --
--- M are the marks of the bytes, R the room. Assumes nothing. NOT here: that it is the machine's step (crate reading).
+-- M are the marks of the bytes, R the room. Assumes nothing. NOT here: that it is the machine's step (crate text_right).
 use Prim.Native.Nat.{ℕ}
 use mathlib.Core.Path.{_≡_, sym, ap, _∙_}
 use mathlib.Core.Bool.{true, false}

@@ -1,0 +1,82 @@
+// Some bytes of text at once: those that a loop goes over, and the one after them.
+use modes::{Mode, Reader};
+use slots::Walk;
+ghost use mathlib.Core.Path.{_≡_};
+ghost use Prim.Native.Nat.{_≤_, _<_};
+ghost use lib.ListN.{length, drop};
+ghost use Rattle.slots.specs.Slots.{roomNeeded};
+ghost use Rattle.slots.specs.Copied.{Copied};
+ghost use Rattle.walk.specs.Walk.{innermostOf, paceOf, walked};
+
+// What a loop does with the next bytes.
+pub enum Pace {
+    // Copies a name into a slot.
+    Copies(usize),
+    // Compares them with the name in a slot.
+    Agrees(usize),
+    // Goes over those that have a mark.
+    Skips(u8),
+}
+
+// The reader and how far it went into the text.
+pub struct Turn {
+    pub reader: Reader,
+    pub at: usize,
+}
+
+// The slot of the innermost open element; the first where none is open.
+fn innermost(place: u16) -> usize
+    ensures { λ x. ⌜ x ≡ innermostOf place ⌝ }
+{
+    if place == 0 {
+        return 0;
+    }
+    place as usize - 1
+}
+
+// Which loop a mode has. In a mode without one no byte has the mark.
+fn pace(r: Reader) -> Pace
+    ensures { λ x. ⌜ x ≡ paceOf r ⌝ }
+{
+    let mode = r.mode;
+    match mode {
+        Mode::Prolog(p) => Pace::Skips(0),
+        Mode::First => Pace::Skips(0),
+        Mode::Around => Pace::Skips(chars::BLANK),
+        Mode::Data => Pace::Skips(chars::PLAIN),
+        Mode::Bracket => Pace::Skips(0),
+        Mode::Brackets => Pace::Skips(0),
+        Mode::Markup => Pace::Skips(0),
+        Mode::Bang => Pace::Skips(0),
+        Mode::Note => Pace::Skips(chars::NO_DASH),
+        Mode::Dash => Pace::Skips(0),
+        Mode::Dashes => Pace::Skips(0),
+        Mode::Amper => Pace::Skips(0),
+        Mode::Char => Pace::Skips(0),
+        Mode::Tag => Pace::Copies(r.place as usize),
+        Mode::Tagged => Pace::Skips(0),
+        Mode::Gap => Pace::Skips(chars::BLANK),
+        Mode::Att => Pace::Copies(slots::ATTRIBUTES + r.count as usize),
+        Mode::Equals => Pace::Skips(chars::BLANK),
+        Mode::Value => Pace::Skips(chars::BLANK),
+        Mode::Double => Pace::Skips(chars::IN_DOUBLE),
+        Mode::Single => Pace::Skips(chars::IN_SINGLE),
+        Mode::Slash => Pace::Skips(0),
+        Mode::End => Pace::Agrees(innermost(r.place)),
+        Mode::Ended => Pace::Skips(chars::BLANK),
+    }
+}
+
+// Goes over the bytes that the mode's loop takes.
+fn walk(marks: &[u8; 256], r: Reader, text: &[u8], at: usize, room: &mut [u8]) -> Walk
+    requires { ⌜ (at ≤ length (now text)) × (length (now room) ≡ roomNeeded) ⌝ }
+    ensures { λ x. ⌜ record { at = x .at; n = x .n; room = now (room .exit) }
+        ≡ walked (now (marks .entry)) r at (drop at (now (text .entry))) (now (room .entry)) ⌝ }
+{
+    let pace = pace(r);
+    match pace {
+        Pace::Copies(slot) => slots::copy(marks, text, at, room, slot, r.n),
+        Pace::Agrees(slot) => slots::agree(text, at, &*room, slot, r.n),
+        Pace::Skips(mark) => Walk { at: chars::skip(marks, text, at, mark), n: r.n },
+    }
+}
