@@ -35,7 +35,7 @@ fn innermost(place: u16) -> usize
 }
 
 // Which loop a mode has. In a mode without one no byte has the mark.
-fn pace(r: Reader) -> Pace
+fn pace_of(r: Reader) -> Pace
     ensures { λ x. ⌜ x ≡ paceOf r ⌝ }
 {
     let mode = r.mode;
@@ -73,7 +73,7 @@ fn walk(marks: &[u8; 256], r: Reader, text: &[u8], at: usize, room: &mut [u8]) -
     ensures { λ x. ⌜ record { at = x .at; n = x .n; room = now (room .exit) }
         ≡ walked (now (marks .entry)) r at (drop at (now (text .entry))) (now (room .entry)) ⌝ }
 {
-    let pace = pace(r);
+    let pace = pace_of(r);
     match pace {
         Pace::Copies(slot) => slots::copy(marks, text, at, room, slot, r.n),
         Pace::Agrees(slot) => slots::agree(text, at, &*room, slot, r.n),
