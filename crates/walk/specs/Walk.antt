@@ -70,10 +70,10 @@ in-mode r e h = h ∙ ap (λ m. paceIn m r) (sym e)
 
 -- what is found at a pace that is known
 pub at-pace :
-  {p k : Pace} (M : List ℕ) (r : Reader) (at : ℕ) (t R : List ℕ) {x : Copied}
-  → p ≡ paceOf r
-  → p ≡ k
-  → x ≡ walkedBy k M r at t R
-  → x ≡ walked M r at t R
+    {p k : Pace} (M : List ℕ) (r : Reader) (at : ℕ) (t R : List ℕ) {x : Copied}
+    → p ≡ paceOf r
+    → p ≡ k
+    → x ≡ walkedBy k M r at t R
+    → x ≡ walked M r at t R
 unfolding walked
 at-pace M r at t R e f h = h ∙ ap (λ z. walkedBy z M r at t R) (sym f ∙ e)

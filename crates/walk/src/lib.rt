@@ -1,5 +1,6 @@
 // Some bytes of text at once: those that a loop goes over, and the one after them.
-use modes::{Mode, Reader};
+use modes::Mode;
+use modes::Reader;
 use slots::Walk;
 ghost use mathlib.Core.Path.{_≡_};
 ghost use Prim.Native.Nat.{_≤_, _<_};
@@ -77,6 +78,9 @@ fn walk(marks: &[u8; 256], r: Reader, text: &[u8], at: usize, room: &mut [u8]) -
     match pace {
         Pace::Copies(slot) => slots::copy(marks, text, at, room, slot, r.n),
         Pace::Agrees(slot) => slots::agree(text, at, &*room, slot, r.n),
-        Pace::Skips(mark) => Walk { at: chars::skip(marks, text, at, mark), n: r.n },
+        Pace::Skips(mark) => Walk {
+            at: chars::skip(marks, text, at, mark),
+            n: r.n,
+        },
     }
 }
