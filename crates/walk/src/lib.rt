@@ -27,7 +27,7 @@ pub struct Gone {
 }
 
 // The slot of the innermost open element; the first where none is open.
-fn innermost(place: u16) -> usize
+pub fn innermost(place: u16) -> usize
     ensures { λ x. ⌜ x ≡ innermostOf place ⌝ }
 {
     if place == 0 {
