@@ -81,17 +81,10 @@ module _ (names old w : List ℕ) (ready : Ready names old) where
         ∙ ap₂ (λ t part. eqb (length line) (length w) && (t && sameBytes part w)) (le-leb _ _ (line-fits names k there)) (line-spelled names k there)
         ∙ length-first line w
 
-  cut : (l : List ℕ) (ls : List (List ℕ)) (k : ℕ) → l ∷ ls ≡ drop k lines → k < length lines
-  cut l ls k e = omega (arith, ap length e, length-drop k lines)
-
-  is-tail : (l : List ℕ) (ls : List (List ℕ)) (k : ℕ) → l ∷ ls ≡ drop k lines → ls ≡ drop (suc k) lines
-  is-tail l ls k e = let both : l ∷ ls ≡ lineAt lines k ∷ drop (suc k) lines = e ∙ drop-cons lines k [] (cut l ls k e) in cc
-
-  -- one line of the rest
-  module _ (l : List ℕ) (ls : List (List ℕ)) (k n : ℕ) (e : l ∷ ls ≡ drop k lines) (enough : suc (length ls) ≤ n)
-      (rest : (m : ℕ) → length ls ≤ m → walked names index w m (firstIn (bucketOf w) (suc (suc k)) ls) ≡ firstFrom (suc (suc k)) ls w) where
+  -- a line, and those behind it
+  module _ (l : List ℕ) (ls : List (List ℕ)) (k : ℕ) (e : l ∷ ls ≡ drop k lines) where
     there : k < length lines
-    there = cut l ls k e
+    there = omega (arith, ap length e, length-drop k lines)
 
     both : l ∷ ls ≡ lineAt lines k ∷ drop (suc k) lines
     both = e ∙ drop-cons lines k [] there
@@ -99,17 +92,26 @@ module _ (names old w : List ℕ) (ready : Ready names old) where
     is-line : lineAt lines k ≡ l
     is-line = cc both
 
-    is-rest : drop (suc k) lines ≡ ls
+    is-rest : ls ≡ drop (suc k) lines
     is-rest = cc both
 
+  -- if what is found among the lines behind it is their first place, so it is with the line
+  module _ (l : List ℕ) (ls : List (List ℕ)) (k n : ℕ) (e : l ∷ ls ≡ drop k lines) (enough : suc (length ls) ≤ n)
+      (rest : (m : ℕ) → length ls ≤ m → walked names index w m (firstIn (bucketOf w) (suc (suc k)) ls) ≡ firstFrom (suc (suc k)) ls w) where
+    here : k < length lines
+    here = there l ls k e
+
     fits-is : fitsAt names index w (suc k) ≡ sameBytes l w
-    fits-is = fits-line k there ∙ ap (λ z. sameBytes z w) is-line
+    fits-is = fits-line k here ∙ ap (λ z. sameBytes z w) (is-line l ls k e)
+
+    next-is : nextOf index (suc k) ≡ firstIn (bucketOf l) (suc (suc k)) ls
+    next-is = next-line k here ∙ ap₂ (λ z r. firstIn (bucketOf z) (suc (suc k)) r) (is-line l ls k e) (sym (is-rest l ls k e))
 
     low : 1 ≤ suc k
     low = omega arith
 
     high : suc k ≤ listLimit
-    high = omega (arith, there, ready-few ready, list-limit-is)
+    high = omega (arith, here, ready-few ready, list-limit-is)
 
     -- a place of the word's bucket
     in-bucket : bucketOf l ≡ bucketOf w → walked names index w n (suc k) ≡ when (sameBytes l w) (suc k) (firstFrom (suc (suc k)) ls w)
@@ -118,9 +120,7 @@ module _ (names old w : List ℕ) (ready : Ready names old) where
         (λ t. walk-here names index w n (suc k) (omega arith) low high (fits-is ∙ t))
         (λ t.
         walk-on names index w n (suc k) (omega arith) low high (fits-is ∙ t)
-        ∙ ap (walked names index w (n - 1))
-        (next-line k there ∙ ap₂ (λ z r. firstIn (bucketOf z) (suc (suc k)) r) is-line is-rest ∙ ap (λ h. firstIn h (suc (suc k)) ls) b)
-        ∙ rest (n - 1) (omega arith))
+        ∙ ap (walked names index w (n - 1)) (next-is ∙ ap (λ h. firstIn h (suc (suc k)) ls) b) ∙ rest (n - 1) (omega arith))
 
     one-line : walked names index w n (firstIn (bucketOf w) (suc k) (l ∷ ls)) ≡ firstFrom (suc k) (l ∷ ls) w
     unfolding firstIn firstFrom
@@ -135,7 +135,7 @@ module _ (names old w : List ℕ) (ready : Ready names old) where
   unfolding firstIn firstFrom
   walk-first [] k n e l = walk-none names index w n 0 refl
   walk-first (line ∷ ls) k n e l =
-      one-line line ls k n e l (λ m h. walk-first ls (suc k) m (is-tail line ls k e) h)
+      one-line line ls k n e l (λ m h. walk-first ls (suc k) m (is-rest line ls k e) h)
 
   head-is : getD index (bucketOf w) 0 ≡ firstIn (bucketOf w) 1 lines
   unfolding built

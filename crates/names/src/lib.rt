@@ -66,7 +66,7 @@ fn spelled(names: &[u8], from: usize, bytes: usize, word: &[u8]) -> bool
     if bytes != word.len() {
         return false;
     }
-    let end = from + bytes;
+    let end = from + word.len();
     if names.len() < end {
         return false;
     }

@@ -10,13 +10,13 @@ use Rattle.names.proofs.build.Statement.{statement}
 use Rattle.names.proofs.build.Tie as tie
 
 returns : tie.Need-returns
-returns c = answer-scant _ _ (c .if1 .taken)
+returns c = answer-scant _ _ (omega arith)
 
 check-requires : tie.Need-check-requires
 check-requires c κs = search needs
 
 returns-2 : tie.Need-returns-2
-returns-2 c = answer-refused _ _ _ _ (c .before .before .before .if1 .left) (c .before .before .check .ensures) (c .if2 .taken) refl
+returns-2 c = answer-refused _ _ _ _ (omega arith) (c .before .before .check .ensures) (λ none. omega (arith, c .if2 .taken)) refl
 
 fill-requires : tie.Need-fill-requires
 fill-requires c κs =
@@ -33,7 +33,7 @@ same-length c = search needs
 returns-3 : tie.Need-returns-3
 returns-3 c =
     let judged = c .before .before .before .before in
-    answer-built _ _ _ _ (judged .before .before .before .if1 .left) (judged .before .before .check .ensures) (judged .if2 .left)
+    answer-built _ _ _ _ (omega arith) (judged .before .before .check .ensures) (judged .if2 .left)
     (c .before .before .fill .ensures)
 
 pub build-spec : {M : Type 1} → statement M

@@ -29,7 +29,8 @@ same-requires c κs = search needs
 
 returns-3 : tie.Need-returns-3
 returns-3 c =
-    sym (spelled-whole _ _ _ _ _ (omega arith) (omega arith) (c .same .ensures))
+    let a = c .before .before .before .before .before .before .args in
+    sym (spelled-whole (a .names .now) (a .from) (a .bytes) (a .word .now) _ _ (omega arith) (omega arith) (omega arith) (c .same .ensures))
 
 pub spelled-spec : {M : Type 1} → statement M
 spelled-spec =

@@ -33,13 +33,14 @@ module _ (names : List ℕ) (from n : ℕ) (w : List ℕ) where
   spelled-past long past =
       ap₂ (λ s t. s && (t && sameBytes (take n (drop from names)) w)) (eq-eqb n (length w) long) (lt-leb (from + n) (length names) past)
 
-  -- the bytes are a part of the list from `from` to from + n
+  -- the part of the list from byte `from` to byte `end` is compared
   pub spelled-whole :
-      (t : Bool) → n ≡ length w → from + n ≤ length names → t ≡ sameBytes (take ((from + n) - from) (drop from names)) w → spelledAt names from n w ≡ t
+      (t : Bool) (end : ℕ) → n ≡ length w → end ≡ from + n → end ≤ length names → t ≡ sameBytes (take (end - from) (drop from names)) w →
+      spelledAt names from n w ≡ t
   unfolding spelledAt
-  spelled-whole t long within told =
-      let part : n ≡ (from + n) - from = omega arith in
-      ap₂ (λ s u. s && (u && sameBytes (take n (drop from names)) w)) (eq-eqb n (length w) long) (le-leb (from + n) (length names) within)
+  spelled-whole t end long ends within told =
+      let part : n ≡ end - from = omega arith in
+      ap₂ (λ s u. s && (u && sameBytes (take n (drop from names)) w)) (eq-eqb n (length w) long) (le-leb (from + n) (length names) (omega arith))
       ∙ ap (λ k. sameBytes (take k (drop from names)) w) part ∙ sym told
 
 place-yes : (p : ℕ) → 1 ≤ p → p ≤ listLimit → isPlace p ≡ true
