@@ -6,10 +6,12 @@
 --   opened, closed             after an open, whose number is kept in its slot, and after a close
 --   emitted names x r R out w        after what the reader r gives, in the list `names` with its index x
 --   in-gives, both-as          by what was found that it gives; by the name that was found
+--   emitted-within, written-within      two records at most are written
 --
 -- R is the room. Assumes nothing.
-use Prim.Native.Nat.{ℕ, _+_}
-use mathlib.Core.Path.{_≡_, sym, ap, ap₂, _∙_}
+use Prim.Native.Nat.{ℕ, _+_, _≤_}
+use native.Mathlib.Omega.{arith}
+use mathlib.Core.Path.{_≡_, sym, ap, ap₂, _∙_, subst}
 use mathlib.Core.List.{List}
 use lib.Dec.{eqb}
 use lib.Seq.{sets}
@@ -57,18 +59,34 @@ unfoldable pub emitted : List ℕ → List ℕ → Reader → List ℕ → List 
 emitted names x r R out w = emittedBy (r .gives) names x (r .place) R out w
 
 pub in-gives :
-  (names x : List ℕ) (r : Reader) (R out : List ℕ) (w : ℕ) {k : Gives} {z : Emitted}
-  → r .gives ≡ k
-  → z ≡ emittedBy k names x (r .place) R out w
-  → z ≡ emitted names x r R out w
+    (names x : List ℕ) (r : Reader) (R out : List ℕ) (w : ℕ) {k : Gives} {z : Emitted}
+    → r .gives ≡ k
+    → z ≡ emittedBy k names x (r .place) R out w
+    → z ≡ emitted names x r R out w
 unfolding emitted
 in-gives names x r R out w e h = h ∙ ap (λ g. emittedBy g names x (r .place) R out w) (sym e)
 
 -- two records with the name x, which is the one that is meant
 pub both-as :
-  (R out : List ℕ) (w : ℕ) {x y v : ℕ} {l : List ℕ}
-  → l ≡ bothIn out w x
-  → v ≡ w + 16
-  → x ≡ y
-  → _≡_ {A = Emitted} (record { room = R; out = l; written = v }) (both R out w y)
+    (R out : List ℕ) (w : ℕ) {x y v : ℕ} {l : List ℕ}
+    → l ≡ bothIn out w x
+    → v ≡ w + 16
+    → x ≡ y
+    → _≡_ {A = Emitted} (record { room = R; out = l; written = v }) (both R out w y)
 both-as R out w e f g = ap₂ (λ l v. record { room = R; out = l; written = v }) (e ∙ ap (bothIn out w) g) f
+
+-- two records at most are written
+pub emitted-within : (names x : List ℕ) (r : Reader) (R out : List ℕ) (w : ℕ) → emitted names x r R out w .written ≤ w + 16
+unfolding emitted emittedBy opened closed
+emitted-within names x r R out w = go (r .gives)
+  where
+    go : (g : Gives) → emittedBy g names x (r .place) R out w .written ≤ w + 16
+    go gives.Nothing = omega arith
+    go gives.Open = omega arith
+    go gives.Close = omega arith
+    go gives.Both = omega arith
+    go gives.Remark = omega arith
+
+pub written-within :
+    (names x : List ℕ) (r : Reader) (R out : List ℕ) (w : ℕ) (E : Emitted) → E ≡ emitted names x r R out w → E .written ≤ w + 16
+written-within names x r R out w E e = subst (λ z. z .written ≤ w + 16) (sym e) (emitted-within names x r R out w)

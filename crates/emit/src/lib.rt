@@ -1,6 +1,8 @@
 // The events that a byte gave, as records in the lent output, and the number of an opened name in its slot.
 use limits::REMARK_NAME;
-use modes::{Gives, Reader, AFTER};
+use modes::AFTER;
+use modes::Gives;
+use modes::Reader;
 ghost use mathlib.Core.Path.{_≡_};
 ghost use Prim.Native.Nat.{_+_, _≤_, _<_};
 ghost use lib.ListN.{length};
@@ -30,7 +32,14 @@ fn look_up(names: &[u8], index: &[u32], room: &[u8], slot: usize) -> u32
 }
 
 // An element was opened: its number is kept in its slot for its close.
-fn open(names: &[u8], index: &[u32], slot: usize, room: &mut [u8], out: &mut [u8], written: usize) -> usize
+fn open(
+    names: &[u8],
+    index: &[u32],
+    slot: usize,
+    room: &mut [u8],
+    out: &mut [u8],
+    written: usize,
+) -> usize
     requires { ⌜ (length (now room) ≡ roomNeeded) × (indexWords ≤ length (now index)) × (written + 16 ≤ length (now out)) ⌝ }
     ensures { λ x. ⌜ record { room = now (room .exit); out = now (out .exit); written = x }
         ≡ opened (now (names .entry)) (now (index .entry)) slot (now (room .entry)) (now (out .entry)) written ⌝ }
@@ -63,7 +72,14 @@ fn both(out: &mut [u8], written: usize, name: u32) -> usize
 }
 
 // Writes what the last byte gave. Answers how many bytes of the output are written then.
-pub fn emit(names: &[u8], index: &[u32], r: Reader, room: &mut [u8], out: &mut [u8], written: usize) -> usize
+pub fn emit(
+    names: &[u8],
+    index: &[u32],
+    r: Reader,
+    room: &mut [u8],
+    out: &mut [u8],
+    written: usize,
+) -> usize
     requires { ⌜ (length (now room) ≡ roomNeeded) × (indexWords ≤ length (now index)) × (written + 16 ≤ length (now out)) ⌝ }
     ensures { λ x. ⌜ record { room = now (room .exit); out = now (out .exit); written = x }
         ≡ emitted (now (names .entry)) (now (index .entry)) r (now (room .entry)) (now (out .entry)) written ⌝ }
@@ -73,7 +89,11 @@ pub fn emit(names: &[u8], index: &[u32], r: Reader, room: &mut [u8], out: &mut [
         Gives::Nothing => written,
         Gives::Open => open(names, index, walk::innermost(r.place), room, out, written),
         Gives::Close => close(closing(r.place), &*room, out, written),
-        Gives::Both => both(out, written, look_up(names, index, &*room, closing(r.place))),
+        Gives::Both => both(
+            out,
+            written,
+            look_up(names, index, &*room, closing(r.place)),
+        ),
         Gives::Remark => both(out, written, REMARK_NAME),
     }
 }

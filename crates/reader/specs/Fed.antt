@@ -7,6 +7,7 @@
 --   readFor k ...                   k turns at most;  readOn: as many as there are
 --
 -- Assumes nothing. NOT here: that this is the machine's run (crate text_right).
+pub mod Laws
 use Prim.Native.Nat.{ℕ, zero, suc, _+_, _-_}
 use mathlib.Core.Bool.{Bool, false}
 use mathlib.Core.List.{List, [], _∷_}

@@ -1,5 +1,8 @@
 // The reader of XML text: text in, event records out. It takes text in blocks cut anywhere.
-use modes::{Gives, Mode, Prolog, Reader};
+use modes::Gives;
+use modes::Mode;
+use modes::Prolog;
+use modes::Reader;
 ghost use mathlib.Core.Path.{_≡_};
 ghost use Prim.Native.Nat.{_+_, _≤_};
 ghost use lib.ListN.{length};
@@ -51,7 +54,14 @@ fn more(refusal: u8, at: usize, end: usize, written: usize, out: usize) -> bool
 }
 
 // Turn by turn.
-fn read_on(reader: Reader, text: &[u8], names: &[u8], index: &[u32], room: &mut [u8], out: &mut [u8]) -> Fed
+fn read_on(
+    reader: Reader,
+    text: &[u8],
+    names: &[u8],
+    index: &[u32],
+    room: &mut [u8],
+    out: &mut [u8],
+) -> Fed
     requires { ⌜ (length (now room) ≡ roomNeeded) × (indexWords ≤ length (now index)) ⌝ }
     ensures { λ r. ⌜ record { reader = r .reader; at = r .taken; room = now (room .exit); out = now (out .exit); written = r .written }
         ≡ readOn (now (names .entry)) (now (index .entry)) (now (text .entry)) reader (now (room .entry)) (now (out .entry)) ⌝ }
@@ -66,5 +76,10 @@ fn read_on(reader: Reader, text: &[u8], names: &[u8], index: &[u32], room: &mut 
         at = gone.at;
         written = emit::emit(names, index, r, room, out, written);
     }
-    Fed { reader: r, taken: at, written, refusal: r.refusal }
+    Fed {
+        reader: r,
+        taken: at,
+        written,
+        refusal: r.refusal,
+    }
 }

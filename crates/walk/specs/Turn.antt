@@ -42,29 +42,29 @@ unfoldable pub turned : List ℕ → Reader → List ℕ → ℕ → List ℕ �
 turned M r t at R = turnedFrom M r t (walked M r at (drop at t) R)
 
 module _
-  (M : List ℕ) (r : Reader) (t : List ℕ) (at : ℕ) (R : List ℕ) (w : Copied) (e : w ≡ walked M r at (drop at t) R) {h : Reader} (s : h ≡ hereAfter r w)
+    (M : List ℕ) (r : Reader) (t : List ℕ) (at : ℕ) (R : List ℕ) (w : Copied) (e : w ≡ walked M r at (drop at t) R) {h : Reader} (s : h ≡ hereAfter r w)
   where
-  whole : turnedFrom M r t w ≡ turned M r t at R
-  unfolding turned
-  whole = ap (turnedFrom M r t) e
+    whole : turnedFrom M r t w ≡ turned M r t at R
+    unfolding turned
+    whole = ap (turnedFrom M r t) e
 
-  pub turn-end : length t ≤ w .at → record { reader = h; at = w .at; room = w .room } ≡ turned M r t at R
-  unfolding turnedFrom
-  turn-end l =
-      ap (λ z. record { reader = z; at = w .at; room = w .room }) s ∙ sym (when-true _ _ _ (le-leb (length t) (w .at) l)) ∙ whole
-
-  module _ (l : w .at < length t) (x : Ticked) (k : x ≡ tick M h (getD t (w .at) 0) (w .room)) where
-    ticks : tickedAt x (w .at) ≡ turned M r t at R
+    pub turn-end : length t ≤ w .at → record { reader = h; at = w .at; room = w .room } ≡ turned M r t at R
     unfolding turnedFrom
-    ticks =
-        ap (λ z. tickedAt z (w .at)) (k ∙ ap (λ z. tick M z (getD t (w .at) 0) (w .room)) s)
-        ∙ sym (when-false _ _ _ (lt-leb (length t) (w .at) l))
-        ∙ whole
+    turn-end l =
+        ap (λ z. record { reader = z; at = w .at; room = w .room }) s ∙ sym (when-true _ _ _ (le-leb (length t) (w .at) l)) ∙ whole
 
-    pub turn-refused : (x .reader .refusal ≡ 0 → ⊥) → record { reader = x .reader; at = w .at; room = x .room } ≡ turned M r t at R
-    unfolding tickedAt
-    turn-refused f = ap (λ z. record { reader = x .reader; at = z; room = x .room }) (sym (when-false _ (w .at + 1) _ (ne-eqb _ 0 f))) ∙ ticks
+    module _ (l : w .at < length t) (x : Ticked) (k : x ≡ tick M h (getD t (w .at) 0) (w .room)) where
+      ticks : tickedAt x (w .at) ≡ turned M r t at R
+      unfolding turnedFrom
+      ticks =
+          ap (λ z. tickedAt z (w .at)) (k ∙ ap (λ z. tick M z (getD t (w .at) 0) (w .room)) s)
+          ∙ sym (when-false _ _ _ (lt-leb (length t) (w .at) l))
+          ∙ whole
 
-    pub turn-on : x .reader .refusal ≡ 0 → record { reader = x .reader; at = w .at + 1; room = x .room } ≡ turned M r t at R
-    unfolding tickedAt
-    turn-on f = ap (λ z. record { reader = x .reader; at = z; room = x .room }) (sym (when-true _ _ (w .at) (eq-eqb _ 0 f))) ∙ ticks
+      pub turn-refused : (x .reader .refusal ≡ 0 → ⊥) → record { reader = x .reader; at = w .at; room = x .room } ≡ turned M r t at R
+      unfolding tickedAt
+      turn-refused f = ap (λ z. record { reader = x .reader; at = z; room = x .room }) (sym (when-false _ (w .at + 1) _ (ne-eqb _ 0 f))) ∙ ticks
+
+      pub turn-on : x .reader .refusal ≡ 0 → record { reader = x .reader; at = w .at + 1; room = x .room } ≡ turned M r t at R
+      unfolding tickedAt
+      turn-on f = ap (λ z. record { reader = x .reader; at = z; room = x .room }) (sym (when-true _ _ (w .at) (eq-eqb _ 0 f))) ∙ ticks

@@ -62,7 +62,7 @@ by-pace (pace.Agrees s) M r at t R = agreed-within R s (r .n) at t
 by-pace (pace.Skips mark) M r at t R = let h = span-within M mark t in (omega arith, omega (arith, h))
 
 pub walked-within :
-  (M : List ℕ) (r : Reader) (t : List ℕ) (at : ℕ) (R : List ℕ) → at ≤ length t → Between at (length t) (walked M r at (drop at t) R .at)
+    (M : List ℕ) (r : Reader) (t : List ℕ) (at : ℕ) (R : List ℕ) → at ≤ length t → Between at (length t) (walked M r at (drop at t) R .at)
 unfolding walked
 walked-within M r t at R l =
     let h = by-pace (paceOf r) M r at (drop at t) R in
@@ -81,9 +81,9 @@ module _ (M : List ℕ) (r : Reader) (t : List ℕ) (at : ℕ) (R : List ℕ) (l
   turned-within =
       when-known (λ (z : Turned). Between at (length t) (z .at)) (leb (length t) (w .at)) _ _ (λ e. inside)
       (λ e.
-        let x = tick M (hereAfter r w) (getD t (w .at) 0) (w .room) in
-        let k : w .at < length t = leb-false _ _ e in
-        when-either (Between at (length t)) (eqb (x .reader .refusal) 0) (w .at + 1) (w .at) (omega (arith, inside .0), omega arith) inside)
+      let x = tick M (hereAfter r w) (getD t (w .at) 0) (w .room) in
+      let k : w .at < length t = leb-false _ _ e in
+      when-either (Between at (length t)) (eqb (x .reader .refusal) 0) (w .at + 1) (w .at) (omega (arith, inside .0), omega arith) inside)
 
   pub turned-on : at < length t → turned M r t at R .reader .refusal ≡ 0 → at < turned M r t at R .at
   unfolding turned turnedFrom tickedAt w
@@ -91,5 +91,5 @@ module _ (M : List ℕ) (r : Reader) (t : List ℕ) (at : ℕ) (R : List ℕ) (l
       when-known (λ (z : Turned). z .reader .refusal ≡ 0 → at < z .at) (leb (length t) (w .at)) _ _
       (λ e f. let k : length t ≤ w .at = leb-true _ _ e in omega arith)
       (λ e f.
-        let x = tick M (hereAfter r w) (getD t (w .at) 0) (w .room) in
-        subst (λ n. at < n) (sym (when-true (eqb (x .reader .refusal) 0) (w .at + 1) (w .at) (eq-eqb _ 0 f))) (let z : at < w .at + 1 = omega (arith, inside .0) in z))
+      let x = tick M (hereAfter r w) (getD t (w .at) 0) (w .room) in
+      subst (λ n. at < n) (sym (when-true (eqb (x .reader .refusal) 0) (w .at + 1) (w .at) (eq-eqb _ 0 f))) (let z : at < w .at + 1 = omega (arith, inside .0) in z))

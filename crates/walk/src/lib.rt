@@ -97,12 +97,21 @@ pub fn turn(marks: &[u8; 256], r: Reader, text: &[u8], at: usize, room: &mut [u8
     let mode = r.mode;
     let here = modes::spell(r, mode, r.row, went.n);
     if text.len() <= end {
-        return Gone { reader: here, at: end };
+        return Gone {
+            reader: here,
+            at: end,
+        };
     }
     let b = text[end];
     let next = tick::tick(marks, here, b, room);
     if next.refusal != 0 {
-        return Gone { reader: next, at: end };
+        return Gone {
+            reader: next,
+            at: end,
+        };
     }
-    Gone { reader: next, at: end + 1 }
+    Gone {
+        reader: next,
+        at: end + 1,
+    }
 }

@@ -23,7 +23,7 @@ same-length c = search needs
 
 returns : tie.Need-returns
 unfolding closed
-returns c = 
+returns c =
     let put = c .before .before in
     let a = put .before .before .before .before .before .args in
     let written : List ℕ → Emitted = λ l. record { room = a .room .now; out = l; written = a .written + 8 } in

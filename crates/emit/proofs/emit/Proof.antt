@@ -59,7 +59,7 @@ same-length-2 c = search needs
 
 returns-2 : tie.Need-returns-2
 unfolding emittedBy
-returns-2 c = 
+returns-2 c =
     let put = c .before .before .before .before in
     let slot = put .before .before .before in
     let told = slot .before in
@@ -75,7 +75,7 @@ same-length-4 c = search needs
 
 returns-3 : tie.Need-returns-3
 unfolding emittedBy
-returns-3 c = 
+returns-3 c =
     let put = c .before .before in
     let slot = put .before .before .before in
     let told = slot .before in
@@ -91,7 +91,7 @@ same-length-6 c = search needs
 
 returns-4 : tie.Need-returns-4
 unfolding emittedBy
-returns-4 c = 
+returns-4 c =
     let put = c .before .before in
     let found = put .before in
     let told = found .before .before .before .before in
@@ -108,7 +108,7 @@ same-length-7 c = search needs
 
 returns-5 : tie.Need-returns-5
 unfolding emittedBy
-returns-5 c = 
+returns-5 c =
     let put = c .before .before in
     let told = put .before .before in
     let a = told .before .before .before .before .before .before .args in

@@ -35,7 +35,7 @@ number-requires : tie.Need-number-requires
 number-requires c κs = search needs
 
 returns : tie.Need-returns
-returns c = 
+returns c =
     let a = c .before .before .before .before .before .before .before .args in
     let R = a .room .now in
     let e = c .before .before .before .base .ensures .0 in

@@ -27,7 +27,7 @@ same-length-2 c = search needs
 
 returns : tie.Need-returns
 unfolding opened
-returns c = 
+returns c =
     let put = c .before .before in
     let kept = put .before .before .before .before in
     let found = kept .before .before in

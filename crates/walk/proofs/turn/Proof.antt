@@ -27,7 +27,7 @@ same-length-2 : tie.Need-same-length-2
 same-length-2 c = search needs
 
 returns-2 : tie.Need-returns-2
-returns-2 c = 
+returns-2 c =
     let ticked = c .before .before .before .before in
     let spelled = ticked .before .before .before .before in
     turn-refused _ _ _ _ _ _ (spelled .before .before .before .walk .ensures) (spelled .spell .ensures) (omega arith) _ (ticked .tick .ensures) (c .if2 .taken)
@@ -42,7 +42,7 @@ same-length-3 : tie.Need-same-length-3
 same-length-3 c = search needs
 
 returns-3 : tie.Need-returns-3
-returns-3 c = 
+returns-3 c =
     let ticked = c .before .before .before .before in
     let spelled = ticked .before .before .before .before in
     turn-on _ _ _ _ _ _ (spelled .before .before .before .walk .ensures) (spelled .spell .ensures) (omega arith) _ (ticked .tick .ensures) (c .if2 .left)
