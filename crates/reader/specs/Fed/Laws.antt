@@ -89,8 +89,8 @@ module _ (names x t : List ℕ) where
           before = ap boolByte (eq-eqb _ 0 (more .unrefused))
 
           go :
-            (b : Bool) → eqb (T .reader .refusal) 0 ≡ b
-            → 2 * (length t - T .at) + boolByte b < 2 * (length t - g .at) + boolByte (eqb (g .reader .refusal) 0)
+              (b : Bool) → eqb (T .reader .refusal) 0 ≡ b
+              → 2 * (length t - T .at) + boolByte b < 2 * (length t - g .at) + boolByte (eqb (g .reader .refusal) 0)
           go true f =
               let on = turned-on marksTable (g .reader) t (g .at) (g .room) a (more .there) (subst (λ z. z .reader .refusal ≡ 0) p (eqb-true _ 0 f)) in
               let on′ : g .at < T .at = subst (λ z. g .at < z .at) (sym p) on in
