@@ -4,3 +4,4 @@ pub mod Sound
 pub mod Matched
 pub mod Forms
 pub mod Content
+pub mod Frames
