@@ -5,3 +5,5 @@ pub mod Matched
 pub mod Forms
 pub mod Content
 pub mod Frames
+pub mod Values
+pub mod Ends
