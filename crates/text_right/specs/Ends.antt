@@ -7,15 +7,16 @@
 -- Assumes nothing.
 use Prim.Native.Nat.{ℕ, zero, suc, _+_, _-_, _≤_, _<_}
 use native.Mathlib.Omega.{arith}
+use native.Mathlib.Numerals.{add-one}
 use mathlib.Core.Path.{_≡_, refl, sym, ap, ap₂, _∙_, subst}
 use mathlib.Core.Bool.{Bool, true, false}
 use mathlib.Core.List.{List, [], _∷_}
-use lib.Dec.{eqb, leb, ltb}
-use lib.ListN.{length, getD, take, drop, length-take, length-drop}
-use lib.Seq.{drop-cons, getD-take, getD-drop, drop-length}
-use borrow.Author.Tests.{eqb-true, eqb-false, ne-eqb, eq-eqb, leb-true, leb-false, lt-ltb, le-ltb}
-use Rattle.choice.specs.When.{when, when-true, when-false}
-use Rattle.xml.specs.Class.{inClass, disjoint, disjointRanges, outOf, word}
+use lib.Dec.{T, eqb, leb, ltb}
+use lib.ListN.{length, getD, drop, length-take, length-drop, drop-of-length-le}
+use lib.Seq.{drop-cons, getD-take, getD-drop}
+use borrow.Author.Tests.{eqb-true, eqb-false, ne-eqb, leb-true, leb-false, ltb-true, ltb-false, lt-ltb, le-ltb}
+use Rattle.choice.specs.When.{when, when-true, when-false, never}
+use Rattle.xml.specs.Class.{Class, inClass, derive, disjoint, disjointRanges, outOf, word}
 use Rattle.xml.specs.Class.Laws.{not-in}
 use Rattle.xml.specs.Chars.{blank, nameChar, beyond}
 use Rattle.xml.specs.Refused.{misplaced, otherEnd}
@@ -54,6 +55,40 @@ unfolding names
 up-deeper R d h =
     let z : d ≡ suc d - 1 = omega arith in
     ap (λ x. Place.inside (nameIn R x) (names R x)) z ∙ sym (place-inner R (suc d) (record { low = omega arith; high = omega arith }))
+
+-- a byte of a class is none of another, and none of the others
+pub other-class : (c d : Class) (b : ℕ) → T (disjoint c d) → inClass d b ≡ true → inClass c b ≡ false
+other-class c d b t e = not-in c d b t (subst T (sym e) tt)
+
+pub other-byte : (c : Class) (b n : ℕ) → inClass c b ≡ true → inClass c n ≡ false → eqb b n ≡ false
+other-byte c b n e f = ne-eqb b n (λ z. never (sym f ∙ sym (ap (inClass c) z) ∙ e))
+
+-- right after an end tag's name comes no byte of a name
+name-next : (n : List ℕ) (ns : List (List ℕ)) (b : ℕ) → inClass nameChar b ≡ true → step bounds (State.ending n ns) b ≡ refused otherEnd
+unfolding step pick inClass disjoint disjointRanges outOf
+name-next n ns b e =
+    when-false _ _ _ (other-class blank nameChar b tt e)
+    ∙ when-false _ _ _ (other-byte nameChar b 62 e refl)
+    ∙ when-true _ _ _ e
+
+beyond-next : (n : List ℕ) (ns : List (List ℕ)) (b : ℕ) → inClass beyond b ≡ true → step bounds (State.ending n ns) b ≡ refused otherEnd
+unfolding step pick inClass disjoint disjointRanges outOf
+beyond-next n ns b e =
+    when-false _ _ _ (other-class blank beyond b tt e)
+    ∙ when-false _ _ _ (other-byte beyond b 62 e refl)
+    ∙ when-false _ _ _ (other-class nameChar beyond b tt e)
+    ∙ when-true _ _ _ e
+
+-- after m bytes of a word
+word-at :
+    (w : List ℕ) (m r : ℕ) (k : State) (x : Bool)
+    → ltb m (length w) ≡ x
+    → wordOn (drop m w) r [] k ≡ goes [] (when x (State.rows (word (drop m w) ∷ []) r [] k) k)
+unfolding wordOn when
+word-at w m r k true e =
+    let h : m < length w = ltb-true _ _ e in
+    subst (λ v. wordOn v r [] k ≡ goes [] (State.rows (word v ∷ []) r [] k)) (sym (drop-cons w m 0 h)) refl
+word-at w m r k false e = ap (λ v. wordOn v r [] k) (drop-of-length-le w (ltb-false _ _ e))
 
 module _ (r : Reader) (R : List ℕ) (b : ℕ) (kept : Kept R (r .place)) where
   pub slash-right :
@@ -114,3 +149,63 @@ module _ (r : Reader) (R : List ℕ) (b : ℕ) (kept : Kept R (r .place)) where
       both _ _ (blank-mark b)
       (λ e. Matches.moves refl refl (record { kept = kept; fits = Fits.ended i }))
       (λ e. both _ _ refl (λ f. closed-right i) (λ f. Matches.stops (omega arith) refl))
+
+  whole-right :
+      b < 256 → Inner (r .place)
+      → Matches (step bounds (State.ending (nameIn R (r .place - 1)) (names R (r .place - 1))) b) (wholeTick marksTable r b) R
+  unfolding wholeTick endedTick stateIn evsIn step pick
+  whole-right l i =
+      by-test (marked marksTable b 16)
+      (λ e. Matches.stops (omega arith) (name-next _ _ b (sym (name-mark b) ∙ e)))
+      (λ e.
+        by-test (leb 128 b)
+        (λ f. Matches.stops (omega arith) (beyond-next _ _ b (sym (beyond-mark b l) ∙ f)))
+        (λ f.
+          both _ _ (blank-mark b)
+          (λ g. Matches.moves refl refl (record { kept = kept; fits = Fits.ended i }))
+          (λ g.
+            both _ _ refl
+            (λ j. closed-right i)
+            (λ j. Matches.stops (omega arith) (when-false _ _ _ (sym (name-mark b) ∙ e) ∙ when-false _ _ _ (sym (beyond-mark b l) ∙ f))))))
+
+  name-long : Inner (r .place) → length (nameIn R (r .place - 1)) ≡ lengthIn R (r .place - 1)
+  unfolding nameIn
+  name-long i =
+      let l = i .low in
+      let h = i .high in
+      let z = kept .long in
+      let e = base-is (r .place - 1) (omega arith) in
+      let m = length-most R (r .place - 1) in
+      simp (length-take, length-drop) (omega arith)
+
+  name-byte : (n : ℕ) → n < lengthIn R (r .place - 1) → getD (nameIn R (r .place - 1)) n 0 ≡ getD R (baseOf (r .place - 1) + n) 0
+  unfolding nameIn
+  name-byte n h = getD-take (lengthIn R (r .place - 1)) (drop (baseOf (r .place - 1)) R) n 0 h ∙ getD-drop (baseOf (r .place - 1)) R n 0
+
+  pub end-right :
+      b < 256 → Inner (r .place)
+      → Matches (step bounds (stateIn R (r .back) (r .place) (r .count) (r .row) (r .n) mode.End) b) (endTick marksTable r b R) R
+  unfolding endTick stateIn endState evsIn step pick
+  end-right l i =
+      let low = i .low in
+      let name = nameIn R (r .place - 1) in
+      let k = State.ending name (names R (r .place - 1)) in
+      turn (when-false _ _ _ (ne-eqb (r .place) 0 (λ z. omega arith)))
+      (by-test (leb (lengthIn R (r .place - 1)) (r .n))
+      (λ e. lift (ap (λ s. step bounds s b) (when-false _ _ _ (le-ltb (r .n) (lengthIn R (r .place - 1)) (leb-true _ _ e)))) (whole-right l i))
+      (λ e.
+        let h : r .n < lengthIn R (r .place - 1) = leb-false _ _ e in
+        let z = name-long i in
+        lift
+        (ap (λ s. step bounds s b) (when-true _ _ _ (lt-ltb (r .n) (lengthIn R (r .place - 1)) h))
+        ∙ ap (λ v. settle (derive b (word v ∷ [])) otherEnd [] k) (drop-cons name (r .n) 0 (omega arith))
+        ∙ word-step (getD name (r .n) 0) (drop (suc (r .n)) name) otherEnd [] k b
+        ∙ ap (λ c. when (eqb b c) (wordOn (drop (suc (r .n)) name) otherEnd [] k) (refused otherEnd)) (name-byte (r .n) h))
+        (both _ _ refl
+        (λ f.
+          Matches.moves refl
+          (ap (λ m. wordOn (drop m name) otherEnd [] k) (sym (add-one (r .n)))
+          ∙ word-at name (r .n + 1) otherEnd k (ltb (r .n + 1) (length name)) refl
+          ∙ ap (λ x. goes [] (when (ltb (r .n + 1) x) (State.rows (word (drop (r .n + 1) name) ∷ []) otherEnd [] k) k)) z)
+          (record { kept = kept; fits = Fits.end i }))
+        (λ f. Matches.stops (omega arith) refl))))
