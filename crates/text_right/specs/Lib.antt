@@ -7,3 +7,4 @@ pub mod Content
 pub mod Frames
 pub mod Values
 pub mod Ends
+pub mod Markup
