@@ -8,3 +8,5 @@ pub mod Frames
 pub mod Values
 pub mod Ends
 pub mod Markup
+pub mod Doubled
+pub mod Names
