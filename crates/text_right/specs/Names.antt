@@ -41,6 +41,9 @@ use Rattle.text_right.specs.Values.{close-right}
 use Rattle.text_right.specs.Markup.{check-yes, check-no, one-fits}
 use Rattle.text_right.specs.Doubled.{doubled-is}
 
+turn-tick : {o : Outcome} {x y : Ticked} → x ≡ y → Ticks o y → Ticks o x
+turn-tick {o} e h = subst (λ z. Ticks o z) (sym e) h
+
 -- a byte past the attributes is written
 pub in-tag-kept : (R : List ℕ) (i v : ℕ) {p k : ℕ} → (256 + k) * 68 ≤ i → InTag R p k → InTag (set R i v) p k
 in-tag-kept R i v {p} {k} h t =
@@ -208,3 +211,95 @@ module _ (r : Reader) (R : List ℕ) (b : ℕ) (kept : Kept R (r .place)) where
           both-ticks _ _ (beyond-mark b l)
           (λ g. Matches.stops (omega arith) refl)
           (λ g. close-right r R b kept (h .deep) (h .named))))
+
+  module _ (tag : InTag R (r .place) (r .count)) (few : r .count < 16) (low : 1 ≤ r .n) (most : r .n ≤ 64) where
+    -- the slot of the attribute, and the room with its name whole
+    slot : ℕ
+    slot = attributeSlot + r .count
+
+    done : List ℕ
+    done = set R (baseOf slot + 64) (r .n)
+
+    done-att : InAtt done (r .place) (r .count)
+    unfolding done slot
+    done-att =
+        let e = base-is (attributeSlot + r .count) (omega arith) in
+        let u = kept .long in
+        record {
+          tag = in-tag-kept R (baseOf (attributeSlot + r .count) + 64) (r .n) (omega arith) tag;
+          fewer = few;
+          shorter = subst (λ z. z ≤ 64) (sym (getD-set-same R (baseOf (attributeSlot + r .count) + 64) (r .n) 0 (omega arith))) most;
+        }
+
+    done-kept : Kept done (r .place)
+    unfolding done slot
+    done-kept =
+        let e = base-is (attributeSlot + r .count) (omega arith) in
+        let d = tag .deep in
+        kept-set R (baseOf (attributeSlot + r .count) + 64) (r .n) (omega arith) (omega arith) kept
+
+    done-is :
+        (f : Place → List ℕ → List (List ℕ) → List ℕ → State)
+        → f (placeOf R (r .place)) (nameIn R (r .place)) (attsOf R (r .count)) (begunIn R slot (r .n))
+        ≡ f (placeOf done (r .place)) (nameIn done (r .place)) (attsOf done (r .count)) (nameIn done slot)
+    unfolding done slot
+    done-is f =
+        let i = baseOf (attributeSlot + r .count) + 64 in
+        let e = base-is (attributeSlot + r .count) (omega arith) in
+        let d = tag .deep in
+        let g = base-is (r .place) (omega arith) in
+        let u = kept .long in
+        ap₂ (λ P n. f P n (attsOf R (r .count)) (begunIn R (attributeSlot + r .count) (r .n)))
+        (sym (place-kept R i (r .n) (r .place) (omega arith) (omega arith))) (sym (name-kept R i (r .n) (r .place) (Out.over (omega arith))))
+        ∙ ap₂ (f (placeOf (set R i (r .n)) (r .place)) (nameIn (set R i (r .n)) (r .place)))
+        (sym (atts-kept R i (r .n) (r .count) (omega arith) (omega arith))) (sym (measured-is R (attributeSlot + r .count) (r .n) most (omega arith)))
+
+    named-right :
+        (m : Mode) (f : Place → List ℕ → List (List ℕ) → List ℕ → State)
+        → f (placeOf done (r .place)) (nameIn done (r .place)) (attsOf done (r .count)) (nameIn done slot) ≡ stateOf (goTo r m) done
+        → Fits done (goTo r m) m
+        → Ticks
+        (named bounds (begunIn R slot (r .n)) (attsOf R (r .count)) (f (placeOf R (r .place)) (nameIn R (r .place)) (attsOf R (r .count)) (begunIn R slot (r .n))))
+        (namedTick r R m)
+    unfolding namedTick evsIn done slot
+    named-right m f is ok =
+        turn-tick (when-false _ _ _ (le-ltb 64 (r .n) most))
+        (by-ticks (doubledIn R (r .count) (r .n))
+        (λ e. Matches.stops (omega arith) (check-no _ _ _ (ap not (sym same ∙ e))))
+        (λ e.
+          Matches.moves refl (check-yes _ _ _ (ap not (sym same ∙ e)) ∙ ap (goes []) (done-is f ∙ is))
+          (record { kept = done-kept; fits = ok })))
+      where
+        same : doubledIn R (r .count) (r .n) ≡ among (begunIn R (attributeSlot + r .count) (r .n)) (attsOf R (r .count))
+        same = doubled-is R (r .count) (r .n) (kept .long) few most (tag .short)
+
+    pub att-right :
+        b < 256
+        → Ticks (step bounds (State.att (placeOf R (r .place)) (nameIn R (r .place)) (attsOf R (r .count)) (begunIn R (attributeSlot + r .count) (r .n))) b)
+        (attTick marksTable r b R)
+    unfolding attTick stateIn evsIn step pick slot
+    att-right l =
+        let i = baseOf (attributeSlot + r .count) + r .n in
+        let e = base-is (attributeSlot + r .count) (omega arith) in
+        let d = tag .deep in
+        let g = base-is (r .place) (omega arith) in
+        both-ticks _ _ (name-mark b)
+        (λ h.
+          longer-right (attributeSlot + r .count) mode.Att (State.att (placeOf R (r .place)) (nameIn R (r .place)) (attsOf R (r .count))) (omega arith) low most
+          (λ j.
+            ap₂ (λ P n. State.att P n (attsOf R (r .count)) (begunIn (set R i b) (attributeSlot + r .count) (r .n + 1)))
+            (sym (place-kept R i b (r .place) (omega arith) (omega arith))) (sym (name-kept R i b (r .place) (Out.over (omega arith))))
+            ∙ ap (λ ms. State.att (placeOf (set R i b) (r .place)) (nameIn (set R i b) (r .place)) ms (begunIn (set R i b) (attributeSlot + r .count) (r .n + 1)))
+            (sym (atts-kept R i b (r .count) (omega arith) (omega arith))))
+          (λ j.
+            record {
+              kept = kept-set R i b (omega arith) (omega arith) kept;
+              fits = Fits.att (in-tag-kept R i b (omega arith) tag) few (omega arith) (omega arith);
+            }))
+        (λ h.
+          both-ticks _ _ (blank-mark b)
+          (λ j. named-right mode.Equals State.eqs refl (Fits.equals done-att))
+          (λ j.
+            both-ticks _ _ refl
+            (λ k. named-right mode.Value State.val refl (Fits.value done-att))
+            (λ k. both-ticks _ _ (beyond-mark b l) (λ z. Matches.stops (omega arith) refl) (λ z. Matches.stops (omega arith) refl))))
