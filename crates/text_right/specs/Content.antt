@@ -31,7 +31,7 @@ use Rattle.prolog.specs.Around.{around}
 use Rattle.content.specs.Text.{afterPlace, wideTick, charTick, dataTick, noteTick, remarkedTick, bangTick}
 use Rattle.text_right.specs.Marked.{marksTable, plain-mark, dash-mark, blank-mark}
 use Rattle.text_right.specs.Stands.{placeOf, formRows, backState, stateIn, bangState, amperState, evsIn}
-use Rattle.text_right.specs.Sound.{Inner, Outer, Spot, Kept, Back, EntityAt, Fits}
+use Rattle.text_right.specs.Sound.{Inner, Outer, Spot, Kept, Back, entity-none, Fits}
 use Rattle.text_right.specs.Matched.{Matches, tuned, lift, turn, both, by-test, place-before, place-after, place-inner, wordOn, word-step}
 use Rattle.text_right.specs.Forms.{nextRows, lead-rows, lead-most, form-rows, follow-most, settle-waits, form-waits}
 
@@ -166,7 +166,7 @@ module _ (r : Reader) (R : List ℕ) (b : ℕ) (kept : Kept R (r .place)) where
         (λ e₁. Matches.moves refl (ap (pick (rest k P)) (eqb-true b 60 e₁)) (record { kept = kept; fits = Fits.markup (Spot.inner h) }))
         (λ e₁.
           by-test (eqb b 38)
-          (λ e₂. Matches.moves refl (ap (pick (rest k P)) (eqb-true b 38 e₂)) (record { kept = kept; fits = Fits.amper (Back.data′ h) (EntityAt.e00 (refl, refl)) }))
+          (λ e₂. Matches.moves refl (ap (pick (rest k P)) (eqb-true b 38 e₂)) (record { kept = kept; fits = Fits.amper (Back.data′ h) entity-none }))
           (λ e₂.
             by-test (eqb b 93)
             (λ e₃. lift (ap (pick (rest k P)) (eqb-true b 93 e₃)) f)

@@ -10,3 +10,4 @@ pub mod Ends
 pub mod Markup
 pub mod Doubled
 pub mod Names
+pub mod Entities

@@ -6,15 +6,18 @@
 --   Back R p k m                  the mode m is one to which the reader comes back
 --   EntityAt row n                n bytes of the entity at `row` can have been read, and it is the first row that begins so
 --   ValueAt row n                 n bytes of the value `row` of the XML declaration can have been read
+--   PartAt k, SaidAt k            k is one of its parts; or none
+--   NameAt row n                  n bytes of the name of the part `row` can have been read, and some are left
 --   FitsIn p r                    the reader fits the mode p of the prolog;  Fits R r m: the mode m
 --   Sound r R                     all of it
 --
 -- Assumes nothing.
-use Prim.Native.Nat.{ℕ, suc, _+_, _≤_, _<_}
+use Prim.Native.Nat.{ℕ, _+_, _≤_, _<_}
 use mathlib.Core.Path.{_≡_}
 use mathlib.Core.Logic.{_⊎_}
+use mathlib.Core.Bool.{Bool, true, false, not, _&&_}
 use mathlib.Core.List.{List}
-use lib.Dec.{eqb}
+use lib.Dec.{T, eqb, leb, ltb}
 use lib.ListN.{length, getD}
 use Rattle.choice.specs.When.{when}
 use Rattle.slots.specs.Slots.{attributeSlot, baseOf, lengthIn}
@@ -62,49 +65,43 @@ pub data Back (R : List ℕ) (p k : ℕ) : Mode → Type 0 where
   double : InAtt R p k → Back R p k mode.Double
   single : InAtt R p k → Back R p k mode.Single
 
--- which row, and how many bytes
-abbrev pub Pair : ℕ → ℕ → ℕ → ℕ → Type 0
-Pair row n i k = (row ≡ i) × (n ≡ k)
+unfoldable pub entityOk : ℕ → ℕ → Bool
+entityOk row n =
+    ltb row 5
+    && (ltb n 5
+    && when (eqb n 0) (eqb row 0) (when (eqb n 1) (not (eqb row 3)) (when (eqb n 2) true (when (eqb n 3) (leb 2 row) (leb 3 row)))))
 
-pub data EntityAt (row n : ℕ) : Type 0 where
-  e00 : Pair row n 0 0 → EntityAt row n
-  e01 : Pair row n 0 1 → EntityAt row n
-  e11 : Pair row n 1 1 → EntityAt row n
-  e21 : Pair row n 2 1 → EntityAt row n
-  e41 : Pair row n 4 1 → EntityAt row n
-  e02 : Pair row n 0 2 → EntityAt row n
-  e12 : Pair row n 1 2 → EntityAt row n
-  e22 : Pair row n 2 2 → EntityAt row n
-  e32 : Pair row n 3 2 → EntityAt row n
-  e42 : Pair row n 4 2 → EntityAt row n
-  e23 : Pair row n 2 3 → EntityAt row n
-  e33 : Pair row n 3 3 → EntityAt row n
-  e43 : Pair row n 4 3 → EntityAt row n
-  e34 : Pair row n 3 4 → EntityAt row n
-  e44 : Pair row n 4 4 → EntityAt row n
+pub record EntityAt (row n : ℕ) : Type 0 where
+  pub holds : T (entityOk row n)
 
-pub data ValueAt (row n : ℕ) : Type 0 where
-  version : row ≡ 1 → n ≤ 3 → ValueAt row n
-  encoding : row ≡ 2 → n ≤ 5 → ValueAt row n
-  either : row ≡ 3 → n ≡ 0 → ValueAt row n
-  affirmed : row ≡ 3 → 1 ≤ n → n ≤ 3 → ValueAt row n
-  denied : row ≡ 4 → 1 ≤ n → n ≤ 2 → ValueAt row n
+pub entity-none : EntityAt 0 0
+unfolding entityOk when
+entity-none = record { holds = tt }
 
--- the number of a part
-pub data PartAt (k : ℕ) : Type 0 where
-  version : k ≡ 1 → PartAt k
-  encoding : k ≡ 2 → PartAt k
-  standalone : k ≡ 3 → PartAt k
+unfoldable pub valueOk : ℕ → ℕ → Bool
+valueOk row n =
+    ltb row 5
+    && (ltb n 6
+    && when (eqb row 1) (ltb n 4) (when (eqb row 2) (ltb n 6) (when (eqb row 3) (ltb n 4) (when (eqb row 4) (leb 1 n && ltb n 3) false))))
 
-pub data SaidAt (k : ℕ) : Type 0 where
-  none : k ≡ 0 → SaidAt k
-  some : PartAt k → SaidAt k
+pub record ValueAt (row n : ℕ) : Type 0 where
+  pub holds : T (valueOk row n)
+
+-- the number of a part, and of one or none
+pub record PartAt (k : ℕ) : Type 0 where
+  pub low : 1 ≤ k
+  pub high : k ≤ 3
+
+pub record SaidAt (k : ℕ) : Type 0 where
+  pub most : k ≤ 3
 
 -- some bytes of a part's name, and not all
-pub data NameAt (row n : ℕ) : Type 0 where
-  version : row ≡ 1 → 1 ≤ n → n ≤ 6 → NameAt row n
-  encoding : row ≡ 2 → 1 ≤ n → n ≤ 7 → NameAt row n
-  standalone : row ≡ 3 → 1 ≤ n → n ≤ 9 → NameAt row n
+unfoldable pub nameOk : ℕ → ℕ → Bool
+nameOk row n =
+    ltb row 4 && (ltb n 10 && (leb 1 n && when (eqb row 1) (ltb n 7) (when (eqb row 2) (ltb n 8) (when (eqb row 3) (ltb n 10) false))))
+
+pub record NameAt (row n : ℕ) : Type 0 where
+  pub holds : T (nameOk row n)
 
 pub data FitsIn (r : Reader) : Prolog → Type 0 where
   start : FitsIn r prolog.Start

@@ -53,9 +53,6 @@ partNo k = when (eqb k 1) version (when (eqb k 2) encoding standalone)
 unfoldable pub saidNo : ℕ → Option Part
 saidNo k = when (eqb k 0) none (some (partNo k))
 
-unfoldable pub valuePart : ℕ → Part
-valuePart row = when (eqb row 1) version (when (eqb row 2) encoding standalone)
-
 unfoldable pub valueLeft : ℕ → ℕ → ℕ → Rows
 valueLeft row n q =
     when (eqb row 1) (word (drop n (49 ∷ 46 ∷ 48 ∷ q ∷ [])) ∷ [])
@@ -121,8 +118,8 @@ module _ (R : List ℕ) (back : Mode) (place count row n : ℕ) where
   prologState prolog.Part = State.rows (word (drop n (partName (partNo row))) ∷ []) misplaced [] (State.partEq (saidNo count) (partNo row))
   prologState prolog.PartEquals = State.partEq (saidNo count) (partNo row)
   prologState prolog.PartValue = State.partVal (saidNo count) (partNo row)
-  prologState prolog.PartDouble = State.rows (valueLeft row n 34) (partRefusal (valuePart row)) [] (State.told (valuePart row))
-  prologState prolog.PartSingle = State.rows (valueLeft row n 39) (partRefusal (valuePart row)) [] (State.told (valuePart row))
+  prologState prolog.PartDouble = State.rows (valueLeft row n 34) (partRefusal (partNo row)) [] (State.told (partNo row))
+  prologState prolog.PartSingle = State.rows (valueLeft row n 39) (partRefusal (partNo row)) [] (State.told (partNo row))
   prologState prolog.Told = State.told (partNo count)
   prologState prolog.Query = thenByte 62 [] (State.at Place.before b0)
 

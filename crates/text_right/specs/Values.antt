@@ -32,7 +32,7 @@ use Rattle.tags.specs.Tag.{tagEnd, taggedTick, equalsTick, valueTick, quotedTic
 use Rattle.tags.specs.Found.{not-deep, not-many}
 use Rattle.text_right.specs.Marked.{marksTable, double-mark, single-mark, blank-mark}
 use Rattle.text_right.specs.Stands.{names, attsOf, placeOf, backState, amperState, stateIn, evsIn}
-use Rattle.text_right.specs.Sound.{Inner, Kept, InTag, InAtt, Back, EntityAt, Fits}
+use Rattle.text_right.specs.Sound.{Inner, Kept, InTag, InAtt, Back, entity-none, Fits}
 use Rattle.text_right.specs.Matched.{Matches, lift, turn, both, by-test, place-before, place-inner}
 use Rattle.text_right.specs.Frames.{kept-more}
 use Rattle.text_right.specs.Content.{back-is, wide-right}
@@ -170,7 +170,7 @@ module _ (r : Reader) (R : List ℕ) (b : ℕ) (kept : Kept R (r .place)) where
           both _ _ refl
           (λ g.
             Matches.moves refl (ap (λ z. goes [] (State.amper z)) s ∙ ap (goes []) (amper-first R m _ _ 0))
-            (record { kept = kept; fits = Fits.amper k (EntityAt.e00 (refl, refl)) }))
+            (record { kept = kept; fits = Fits.amper k entity-none }))
           (λ g.
             both _ _ refl
             (λ i. Matches.stops (omega arith) refl)
