@@ -80,7 +80,7 @@ beyond-next n ns b e =
     ∙ when-true _ _ _ e
 
 -- after m bytes of a word
-word-at :
+pub word-at :
     (w : List ℕ) (m r : ℕ) (k : State) (x : Bool)
     → ltb m (length w) ≡ x
     → wordOn (drop m w) r [] k ≡ goes [] (when x (State.rows (word (drop m w) ∷ []) r [] k) k)

@@ -11,3 +11,5 @@ pub mod Markup
 pub mod Doubled
 pub mod Names
 pub mod Entities
+pub mod Opening
+pub mod Parts

@@ -178,5 +178,5 @@ module _ (r : Reader) (R : List ℕ) (b : ℕ) (kept : Kept R (r .place)) where
   unfolding firstTick stateIn prologState evsIn step pick
   first-right l e =
       both-ticks _ _ refl
-      (λ f. Matches.moves refl refl (record { kept = kept; fits = Fits.prolog′ e (FitsIn.xml (omega arith) (omega arith)) }))
+      (λ f. Matches.moves refl refl (record { kept = kept; fits = Fits.prolog′ e (FitsIn.xml (inl refl)) }))
       (λ f. lift (ap (λ P. pick (markupArms bounds P) b) (sym (place-before R _ e))) (markup-right l (Spot.outer (Outer.before e))))

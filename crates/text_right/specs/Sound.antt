@@ -107,7 +107,7 @@ pub data FitsIn (r : Reader) : Prolog → Type 0 where
   start : FitsIn r prolog.Start
   mark : (r .n ≡ 1) ⊎ (r .n ≡ 2) → FitsIn r prolog.Mark
   fresh : FitsIn r prolog.Fresh
-  xml : 2 ≤ r .n → r .n ≤ 4 → FitsIn r prolog.Xml
+  xml : (r .n ≡ 2) ⊎ ((r .n ≡ 3) ⊎ (r .n ≡ 4)) → FitsIn r prolog.Xml
   declared : FitsIn r prolog.Declared
   piece : SaidAt (r .count) → FitsIn r prolog.Piece
   part : SaidAt (r .count) → NameAt (r .row) (r .n) → FitsIn r prolog.Part
