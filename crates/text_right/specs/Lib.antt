@@ -13,3 +13,4 @@ pub mod Names
 pub mod Entities
 pub mod Opening
 pub mod Parts
+pub mod Quoted
