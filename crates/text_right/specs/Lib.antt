@@ -14,3 +14,4 @@ pub mod Entities
 pub mod Opening
 pub mod Parts
 pub mod Quoted
+pub mod Right
