@@ -3,3 +3,4 @@ pub mod Forms
 pub mod Same
 pub mod Entities
 pub mod Said
+pub mod Table

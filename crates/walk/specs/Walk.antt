@@ -2,6 +2,7 @@
 --
 --   innermostOf p             the slot of the innermost open element; the first where none is open
 --   paceIn m r, paceOf r      which loop the mode has
+--   in-mode, at-pace          by the mode, and by the pace, that was found
 --   walked M r at t R         how far the loop goes in the text t that begins at `at`, how many bytes of a name are read then, and the room
 --
 -- M are the marks of the bytes, R the room. Assumes nothing.
@@ -61,3 +62,18 @@ walkedBy (pace.Skips mark) M r at t R = record { at = at + span M mark t; n = r 
 
 unfoldable pub walked : List ℕ → Reader → ℕ → List ℕ → List ℕ → Copied
 walked M r at t R = walkedBy (paceOf r) M r at t R
+
+-- what is found in a mode that is known
+pub in-mode : (r : Reader) {k : Mode} {x : Pace} → r .mode ≡ k → x ≡ paceIn k r → x ≡ paceOf r
+unfolding paceOf
+in-mode r e h = h ∙ ap (λ m. paceIn m r) (sym e)
+
+-- what is found at a pace that is known
+pub at-pace :
+    {p k : Pace} (M : List ℕ) (r : Reader) (at : ℕ) (t R : List ℕ) {x : Copied}
+    → p ≡ paceOf r
+    → p ≡ k
+    → x ≡ walkedBy k M r at t R
+    → x ≡ walked M r at t R
+unfolding walked
+at-pace M r at t R e f h = h ∙ ap (λ z. walkedBy z M r at t R) (sym f ∙ e)

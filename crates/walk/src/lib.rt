@@ -1,5 +1,6 @@
 // Some bytes of text at once: those that a loop goes over, and the one after them.
-use modes::{Mode, Reader};
+use modes::Mode;
+use modes::Reader;
 use slots::Walk;
 ghost use mathlib.Core.Path.{_≡_};
 ghost use Prim.Native.Nat.{_≤_, _<_};
@@ -7,6 +8,7 @@ ghost use lib.ListN.{length, drop};
 ghost use Rattle.slots.specs.Slots.{roomNeeded};
 ghost use Rattle.slots.specs.Copied.{Copied};
 ghost use Rattle.walk.specs.Walk.{innermostOf, paceOf, walked};
+ghost use Rattle.walk.specs.Turn.{Turned, turned};
 
 // What a loop does with the next bytes.
 pub enum Pace {
@@ -19,13 +21,13 @@ pub enum Pace {
 }
 
 // The reader and how far it went into the text.
-pub struct Turn {
+pub struct Gone {
     pub reader: Reader,
     pub at: usize,
 }
 
 // The slot of the innermost open element; the first where none is open.
-fn innermost(place: u16) -> usize
+pub fn innermost(place: u16) -> usize
     ensures { λ x. ⌜ x ≡ innermostOf place ⌝ }
 {
     if place == 0 {
@@ -77,6 +79,39 @@ fn walk(marks: &[u8; 256], r: Reader, text: &[u8], at: usize, room: &mut [u8]) -
     match pace {
         Pace::Copies(slot) => slots::copy(marks, text, at, room, slot, r.n),
         Pace::Agrees(slot) => slots::agree(text, at, &*room, slot, r.n),
-        Pace::Skips(mark) => Walk { at: chars::skip(marks, text, at, mark), n: r.n },
+        Pace::Skips(mark) => Walk {
+            at: chars::skip(marks, text, at, mark),
+            n: r.n,
+        },
+    }
+}
+
+// The bytes that the mode's loop takes, and the one after them. Stops before that byte where it is refused.
+pub fn turn(marks: &[u8; 256], r: Reader, text: &[u8], at: usize, room: &mut [u8]) -> Gone
+    requires { ⌜ (at ≤ length (now text)) × (length (now room) ≡ roomNeeded) ⌝ }
+    ensures { λ x. ⌜ record { reader = x .reader; at = x .at; room = now (room .exit) }
+        ≡ turned (now (marks .entry)) r (now (text .entry)) at (now (room .entry)) ⌝ }
+{
+    let went = walk(marks, r, text, at, room);
+    let end = went.at;
+    let mode = r.mode;
+    let here = modes::spell(r, mode, r.row, went.n);
+    if text.len() <= end {
+        return Gone {
+            reader: here,
+            at: end,
+        };
+    }
+    let b = text[end];
+    let next = tick::tick(marks, here, b, room);
+    if next.refusal != 0 {
+        return Gone {
+            reader: next,
+            at: end,
+        };
+    }
+    Gone {
+        reader: next,
+        at: end + 1,
     }
 }

@@ -3,16 +3,17 @@
 --   room-is                   18,496 bytes
 --   base-inside, base-past    where a slot begins that is there, and one that is not
 --   length-long, length-short      the length of a name that counts as 64, and as it is
---   number-read               the number from its two bytes
+--   number-read               the number from its two bytes;  name-part: the name as a part of the room
 --
 -- Assumes nothing.
-use Prim.Native.Nat.{ℕ, _+_, _*_, _≤_, _<_}
+use Prim.Native.Nat.{ℕ, _+_, _*_, _-_, _≤_, _<_}
+use native.Mathlib.Omega.{arith}
 use mathlib.Core.Path.{_≡_, refl, sym, ap, ap₂, _∙_, subst}
 use mathlib.Core.List.{List}
-use lib.ListN.{getD}
+use lib.ListN.{getD, take, drop}
 use borrow.Author.Tests.{lt-ltb, le-ltb}
 use Rattle.choice.specs.When.{when-true, when-false}
-use Rattle.slots.specs.Slots.{roomNeeded, baseOf, lengthIn, numberIn}
+use Rattle.slots.specs.Slots.{roomNeeded, baseOf, lengthIn, nameIn, numberIn}
 
 pub room-is : roomNeeded ≡ 18_496
 unfolding roomNeeded
@@ -39,3 +40,7 @@ module _ (R : List ℕ) (s at : ℕ) (e : at ≡ baseOf s) where
   pub number-read : getD R (at + 65) 0 * 256 + getD R (at + 66) 0 ≡ numberIn R s
   unfolding numberIn
   number-read = ap (λ k. getD R (k + 65) 0 * 256 + getD R (k + 66) 0) e
+
+pub name-part : (R : List ℕ) (s at n : ℕ) → at ≡ baseOf s → n ≡ lengthIn R s → take ((at + n) - at) (drop at R) ≡ nameIn R s
+unfolding nameIn
+name-part R s at n e f = let g : (at + n) - at ≡ n = omega arith in ap₂ (λ k j. take k (drop j R)) (g ∙ f) e

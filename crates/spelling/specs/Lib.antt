@@ -1,0 +1,2 @@
+pub mod Bucket
+pub mod Same
