@@ -15,3 +15,4 @@ pub mod Opening
 pub mod Parts
 pub mod Quoted
 pub mod Right
+pub mod Quiet
