@@ -16,3 +16,4 @@ pub mod Parts
 pub mod Quoted
 pub mod Right
 pub mod Quiet
+pub mod Loops
