@@ -17,3 +17,4 @@ pub mod Quoted
 pub mod Right
 pub mod Quiet
 pub mod Loops
+pub mod Walked
