@@ -6,22 +6,21 @@
 --   note-right, dash-right, dashes-right, bang-right        a comment, from its '<!' on
 --
 -- Assumes nothing.
-use Prim.Native.Nat.{ℕ, suc, _≤_, _<_}
+use Prim.Native.Nat.{ℕ, _≤_, _<_}
 use native.Mathlib.Omega.{arith}
 use mathlib.Core.Path.{_≡_, refl, sym, ap, _∙_, subst}
 use mathlib.Core.Logic.{_⊎_, inl, inr}
 use mathlib.Core.Bool.{Bool, true, false}
 use mathlib.Core.List.{List, [], _∷_}
 use lib.Dec.{eqb}
-use borrow.Author.Tests.{eq-eqb, ne-eqb, eqb-true, eqb-false}
+use borrow.Author.Tests.{ne-eqb, eqb-true, eqb-false}
 use Rattle.choice.specs.When.{when, when-true, when-false}
 use Rattle.xml.specs.Class.{inClass, keep, derive, word}
-use Rattle.xml.specs.Chars.{utf8, noDash, plain, blank}
+use Rattle.xml.specs.Chars.{utf8, plain, blank}
 use Rattle.xml.specs.Refused.{misplaced, notChar, cdata, doctype}
 use Rattle.xml.specs.Grammar.{Br, b0, b1, b2, bracket}
-use Rattle.xml.specs.Machine.{Place, State, Outcome, refused, goes, Arms, oneOf, lit, on, moves, arms, greater, settle, pick, step, thenByte, remarks}
+use Rattle.xml.specs.Machine.{Place, State, refused, goes, Arms, oneOf, lit, moves, greater, settle, pick, step, thenByte, remarks}
 use Rattle.xml.specs.Limited.{bounds}
-use Rattle.chars.specs.Marks.{marked}
 use Rattle.chars.specs.Forms.{leadForm, follows, whole}
 use Rattle.modes.specs.declared.Mode.{Mode}
 use Rattle.modes.specs.declared.Mode.the-variants as mode
@@ -76,11 +75,11 @@ module _ (r : Reader) (R : List ℕ) (b : ℕ) (kept : Kept R (r .place)) where
       (by-test (eqb (leadForm b) 0)
       (λ e. Matches.stops (omega arith) (ap (λ z. settle z notChar [] k) (when-true _ _ _ e)))
       (λ e.
-        let g : 1 ≤ leadForm b = positive _ (eqb-false (leadForm b) 0 e) in
-        Matches.moves refl
-        (ap (λ z. settle z notChar [] k) (when-false _ _ _ e ∙ when-false _ _ _ (ne-eqb (leadForm b) whole (λ z. omega arith)))
-        ∙ settle-waits (formRows (leadForm b)) notChar [] k (form-waits _ (omega arith)))
-        (record { kept = kept; fits = Fits.char h g (omega arith) })))
+      let g : 1 ≤ leadForm b = positive _ (eqb-false (leadForm b) 0 e) in
+      Matches.moves refl
+      (ap (λ z. settle z notChar [] k) (when-false _ _ _ e ∙ when-false _ _ _ (ne-eqb (leadForm b) whole (λ z. omega arith)))
+      ∙ settle-waits (formRows (leadForm b)) notChar [] k (form-waits _ (omega arith)))
+      (record { kept = kept; fits = Fits.char h g (omega arith) })))
 
   pub char-right :
       b < 256 → Back R (r .place) (r .count) (r .back) → 1 ≤ r .n → r .n ≤ 9
@@ -94,19 +93,19 @@ module _ (r : Reader) (R : List ℕ) (b : ℕ) (kept : Kept R (r .place)) where
       (by-test (eqb x 0)
       (λ e. Matches.stops (omega arith) (ap (λ z. settle z notChar [] k) (when-true _ _ _ e)))
       (λ e.
-        let g : 1 ≤ follows (r .n) b = positive _ (eqb-false x 0 e) in
-        by-test (eqb x whole)
-        (λ f.
-          Matches.moves refl
-          (ap (λ z. settle z notChar [] k) (when-false _ _ _ e ∙ when-true _ _ _ f) ∙ ap (goes []) (sym (back-is R (r .back) _ _ _ _ h)))
-          (record { kept = kept; fits = Fits.back h }))
-        (λ f.
-          let d = eqb-false x whole f in
-          let y : follows (r .n) b ≤ 9 = under _ most d in
-          Matches.moves refl
-          (ap (λ z. settle z notChar [] k) (when-false _ _ _ e ∙ when-false _ _ _ f)
-          ∙ settle-waits (formRows x) notChar [] k (form-waits _ y))
-          (record { kept = kept; fits = Fits.char h g y }))))
+      let g : 1 ≤ follows (r .n) b = positive _ (eqb-false x 0 e) in
+      by-test (eqb x whole)
+      (λ f.
+      Matches.moves refl
+      (ap (λ z. settle z notChar [] k) (when-false _ _ _ e ∙ when-true _ _ _ f) ∙ ap (goes []) (sym (back-is R (r .back) _ _ _ _ h)))
+      (record { kept = kept; fits = Fits.back h }))
+      (λ f.
+      let d = eqb-false x whole f in
+      let y : follows (r .n) b ≤ 9 = under _ most d in
+      Matches.moves refl
+      (ap (λ z. settle z notChar [] k) (when-false _ _ _ e ∙ when-false _ _ _ f)
+      ∙ settle-waits (formRows x) notChar [] k (form-waits _ y))
+      (record { kept = kept; fits = Fits.char h g y }))))
 
   -- around the document element: blanks and '<'
   at-outer :
@@ -130,9 +129,9 @@ module _ (r : Reader) (R : List ℕ) (b : ℕ) (kept : Kept R (r .place)) where
       (both _ _ (blank-mark b)
       (λ e. Matches.moves refl refl (record { kept = kept; fits = Fits.around h }))
       (λ e.
-        both _ _ refl
-        (λ f. Matches.moves refl refl (record { kept = kept; fits = Fits.markup (Spot.outer h) }))
-        (λ f. Matches.stops (omega arith) refl)))
+      both _ _ refl
+      (λ f. Matches.moves refl refl (record { kept = kept; fits = Fits.markup (Spot.outer h) }))
+      (λ f. Matches.stops (omega arith) refl)))
 
   -- what comes of a byte that is not plain
   rest : Br → Place → Arms
@@ -162,18 +161,18 @@ module _ (r : Reader) (R : List ℕ) (b : ℕ) (kept : Kept R (r .place)) where
       (both _ _ (plain-mark b)
       (λ e. Matches.moves refl refl (record { kept = kept; fits = Fits.back (Back.data′ h) }))
       (λ e.
-        by-test (eqb b 60)
-        (λ e₁. Matches.moves refl (ap (pick (rest k P)) (eqb-true b 60 e₁)) (record { kept = kept; fits = Fits.markup (Spot.inner h) }))
-        (λ e₁.
-          by-test (eqb b 38)
-          (λ e₂. Matches.moves refl (ap (pick (rest k P)) (eqb-true b 38 e₂)) (record { kept = kept; fits = Fits.amper (Back.data′ h) entity-none }))
-          (λ e₂.
-            by-test (eqb b 93)
-            (λ e₃. lift (ap (pick (rest k P)) (eqb-true b 93 e₃)) f)
-            (λ e₃.
-              by-test (eqb b 62)
-              (λ e₄. lift (ap (pick (rest k P)) (eqb-true b 62 e₄)) g)
-              (λ e₄. lift (when-false _ _ _ e₃ ∙ when-false _ _ _ e₄ ∙ when-false _ _ _ e₁ ∙ when-false _ _ _ e₂) (wide-right {m = mode.Data} l (Back.data′ h))))))))
+      by-test (eqb b 60)
+      (λ e₁. Matches.moves refl (ap (pick (rest k P)) (eqb-true b 60 e₁)) (record { kept = kept; fits = Fits.markup (Spot.inner h) }))
+      (λ e₁.
+      by-test (eqb b 38)
+      (λ e₂. Matches.moves refl (ap (pick (rest k P)) (eqb-true b 38 e₂)) (record { kept = kept; fits = Fits.amper (Back.data′ h) entity-none }))
+      (λ e₂.
+      by-test (eqb b 93)
+      (λ e₃. lift (ap (pick (rest k P)) (eqb-true b 93 e₃)) f)
+      (λ e₃.
+      by-test (eqb b 62)
+      (λ e₄. lift (ap (pick (rest k P)) (eqb-true b 62 e₄)) g)
+      (λ e₄. lift (when-false _ _ _ e₃ ∙ when-false _ _ _ e₄ ∙ when-false _ _ _ e₁ ∙ when-false _ _ _ e₂) (wide-right {m = mode.Data} l (Back.data′ h))))))))
 
   pub data-right : b < 256 → Inner (r .place) → Matches (step bounds (State.at (placeOf R (r .place)) b0) b) (dataTick marksTable r b mode.Bracket false) R
   unfolding stateIn evsIn when
@@ -204,9 +203,9 @@ module _ (r : Reader) (R : List ℕ) (b : ℕ) (kept : Kept R (r .place)) where
       both _ _ (dash-mark b)
       (λ e. Matches.moves refl refl (record { kept = kept; fits = Fits.back (Back.note h) }))
       (λ e.
-        both _ _ refl
-        (λ f. Matches.moves refl refl (record { kept = kept; fits = Fits.dash h }))
-        (λ f. wide-right {m = mode.Note} l (Back.note h)))
+      both _ _ refl
+      (λ f. Matches.moves refl refl (record { kept = kept; fits = Fits.dash h }))
+      (λ f. wide-right {m = mode.Note} l (Back.note h)))
 
   pub dash-right : b < 256 → Spot (r .place) → Matches (step bounds (State.dash (placeOf R (r .place))) b) (noteTick marksTable r b mode.Dashes) R
   unfolding step pick noteTick stateIn evsIn backState
@@ -214,9 +213,9 @@ module _ (r : Reader) (R : List ℕ) (b : ℕ) (kept : Kept R (r .place)) where
       both _ _ (dash-mark b)
       (λ e. Matches.moves refl refl (record { kept = kept; fits = Fits.back (Back.note h) }))
       (λ e.
-        both _ _ refl
-        (λ f. Matches.moves refl refl (record { kept = kept; fits = Fits.dashes h }))
-        (λ f. wide-right {m = mode.Note} l (Back.note h)))
+      both _ _ refl
+      (λ f. Matches.moves refl refl (record { kept = kept; fits = Fits.dashes h }))
+      (λ f. wide-right {m = mode.Note} l (Back.note h)))
 
   pub dashes-right :
       Spot (r .place)
@@ -227,18 +226,18 @@ module _ (r : Reader) (R : List ℕ) (b : ℕ) (kept : Kept R (r .place)) where
       lift (word-step 62 [] misplaced (remarks P) (State.at P b0) b)
       (both _ _ refl
       (λ e.
-        by-test (eqb (r .place) 0)
-        (λ f.
-          let z : r .place ≡ 0 = eqb-true _ 0 f in
-          Matches.moves refl (ap (λ es. goes es (State.at P b0)) (ap remarks (place-before R _ z))) (record { kept = kept; fits = Fits.around (Outer.before z) }))
-        (λ f.
-          by-test (eqb (r .place) afterPlace)
-          (λ g.
-            let z : r .place ≡ afterPlace = eqb-true _ afterPlace g in
-            Matches.moves refl (ap (λ es. goes es (State.at P b0)) (ap remarks (place-after R _ z))) (record { kept = kept; fits = Fits.around (Outer.after z) }))
-          (λ g.
-            let i = innerOf h (eqb-false _ 0 f) (eqb-false _ afterPlace g) in
-            Matches.moves refl (ap (λ es. goes es (State.at P b0)) (ap remarks (place-inner R _ i))) (record { kept = kept; fits = Fits.back (Back.data′ i) }))))
+      by-test (eqb (r .place) 0)
+      (λ f.
+      let z : r .place ≡ 0 = eqb-true _ 0 f in
+      Matches.moves refl (ap (λ es. goes es (State.at P b0)) (ap remarks (place-before R _ z))) (record { kept = kept; fits = Fits.around (Outer.before z) }))
+      (λ f.
+      by-test (eqb (r .place) afterPlace)
+      (λ g.
+      let z : r .place ≡ afterPlace = eqb-true _ afterPlace g in
+      Matches.moves refl (ap (λ es. goes es (State.at P b0)) (ap remarks (place-after R _ z))) (record { kept = kept; fits = Fits.around (Outer.after z) }))
+      (λ g.
+      let i = innerOf h (eqb-false _ 0 f) (eqb-false _ afterPlace g) in
+      Matches.moves refl (ap (λ es. goes es (State.at P b0)) (ap remarks (place-inner R _ i))) (record { kept = kept; fits = Fits.back (Back.data′ i) }))))
       (λ e. Matches.stops (omega arith) refl))
 
   two : Reader
@@ -268,12 +267,12 @@ module _ (r : Reader) (R : List ℕ) (b : ℕ) (kept : Kept R (r .place)) where
       (by-test (eqb b 45)
       (λ e. Matches.moves refl (ap (step bounds (State.bang P)) (eqb-true b 45 e) ∙ bang-dash P ∙ ap (goes []) (third-is R _ _ _ _)) (record { kept = kept; fits = Fits.bang h (inr refl) }))
       (λ e.
-        both _ _ refl
-        (λ f. Matches.stops (omega arith) refl)
-        (λ f.
-          both _ _ refl
-          (λ g. Matches.stops (omega arith) refl)
-          (λ g. Matches.stops (omega arith) (word-step 45 (45 ∷ []) misplaced [] (State.note P) b ∙ when-false _ _ _ e)))))
+      both _ _ refl
+      (λ f. Matches.stops (omega arith) refl)
+      (λ f.
+      both _ _ refl
+      (λ g. Matches.stops (omega arith) refl)
+      (λ g. Matches.stops (omega arith) (word-step 45 (45 ∷ []) misplaced [] (State.note P) b ∙ when-false _ _ _ e)))))
 
   -- '<!-' was read
   bang-second :

@@ -5,16 +5,15 @@
 --   doubled-is                     what the code asks is what the machine asks
 --
 -- Assumes nothing.
-use Prim.Native.Nat.{ℕ, zero, suc, _+_, _*_, _≤_, _<_}
+use Prim.Native.Nat.{ℕ, zero, suc, _+_, _≤_, _<_}
 use native.Mathlib.Omega.{arith}
-use native.Mathlib.Numerals.{add-one}
-use mathlib.Core.Path.{_≡_, refl, sym, ap, ap₂, _∙_, subst}
+use mathlib.Core.Path.{_≡_, refl, sym, ap, ap₂, _∙_}
 use mathlib.Core.Bool.{Bool, true, false, _&&_, _||_}
 use mathlib.Core.List.{List, [], _∷_}
-use lib.Dec.{eqb, ltb}
+use lib.Dec.{eqb}
 use lib.ListN.{length, getD, take, drop}
 use borrow.Author.Tests.{eq-eqb, ne-eqb, eqb-true, eqb-false, le-ltb}
-use Rattle.choice.specs.When.{when, when-true, when-false}
+use Rattle.choice.specs.When.{when, when-false}
 use Rattle.xml.specs.Grammar.{sameName, among}
 use Rattle.chars.specs.Same.{sameBytes}
 use Rattle.slots.specs.Slots.{attributeSlot, baseOf, lengthIn, nameIn}

@@ -5,7 +5,7 @@
 --   ended-right       after its name and a blank;  end-right: in its name, and right after it
 --
 -- Assumes nothing.
-use Prim.Native.Nat.{ℕ, zero, suc, _+_, _-_, _≤_, _<_}
+use Prim.Native.Nat.{ℕ, suc, _+_, _-_, _≤_, _<_}
 use native.Mathlib.Omega.{arith}
 use native.Mathlib.Numerals.{add-one}
 use mathlib.Core.Path.{_≡_, refl, sym, ap, ap₂, _∙_, subst}
@@ -20,8 +20,8 @@ use Rattle.xml.specs.Class.{Class, inClass, derive, disjoint, disjointRanges, o
 use Rattle.xml.specs.Class.Laws.{not-in}
 use Rattle.xml.specs.Chars.{blank, nameChar, beyond}
 use Rattle.xml.specs.Refused.{misplaced, otherEnd}
-use Rattle.xml.specs.Grammar.{Ev, opens, closes, b0}
-use Rattle.xml.specs.Machine.{Place, State, Outcome, refused, goes, up, emptied, thenByte, settle, pick, step}
+use Rattle.xml.specs.Grammar.{opens, closes, b0}
+use Rattle.xml.specs.Machine.{Place, State, refused, goes, up, emptied, settle, pick, step}
 use Rattle.xml.specs.Limited.{bounds}
 use Rattle.chars.specs.Marks.{marked}
 use Rattle.slots.specs.Slots.{baseOf, lengthIn, nameIn}
@@ -101,19 +101,19 @@ module _ (r : Reader) (R : List ℕ) (b : ℕ) (kept : Kept R (r .place)) where
       lift (word-step 62 [] misplaced (opens n ∷ closes n ∷ []) (State.at (emptied P) b0) b)
       (both _ _ refl
       (λ e.
-        by-test (eqb (r .place) 0)
-        (λ f.
-          let z : r .place ≡ 0 = eqb-true _ 0 f in
-          Matches.moves refl
-          (ap₂ (λ x Q. goes (opens (nameIn R x) ∷ closes (nameIn R x) ∷ []) (State.at Q b0)) (z ∙ sym slot-after)
-          (ap emptied (place-before R _ z) ∙ sym (place-after R afterPlace refl)))
-          (record { kept = kept-none R _ kept; fits = Fits.around (Outer.after refl) }))
-        (λ f.
-          let i = inner (r .place) l (eqb-false _ 0 f) in
-          Matches.moves refl
-          (ap₂ (λ x Q. goes (opens (nameIn R x) ∷ closes (nameIn R x) ∷ []) (State.at Q b0)) (sym (slot-inner (r .place) (omega arith)))
-          (ap emptied (place-inner R _ i) ∙ sym (place-inner R _ i)))
-          (record { kept = kept; fits = Fits.back (Back.data′ i) })))
+      by-test (eqb (r .place) 0)
+      (λ f.
+      let z : r .place ≡ 0 = eqb-true _ 0 f in
+      Matches.moves refl
+      (ap₂ (λ x Q. goes (opens (nameIn R x) ∷ closes (nameIn R x) ∷ []) (State.at Q b0)) (z ∙ sym slot-after)
+      (ap emptied (place-before R _ z) ∙ sym (place-after R afterPlace refl)))
+      (record { kept = kept-none R _ kept; fits = Fits.around (Outer.after refl) }))
+      (λ f.
+      let i = inner (r .place) l (eqb-false _ 0 f) in
+      Matches.moves refl
+      (ap₂ (λ x Q. goes (opens (nameIn R x) ∷ closes (nameIn R x) ∷ []) (State.at Q b0)) (sym (slot-inner (r .place) (omega arith)))
+      (ap emptied (place-inner R _ i) ∙ sym (place-inner R _ i)))
+      (record { kept = kept; fits = Fits.back (Back.data′ i) })))
       (λ e. Matches.stops (omega arith) refl))
     where
       inner : (p : ℕ) → p < 256 → (p ≡ 0 → ⊥) → Inner p
@@ -128,18 +128,18 @@ module _ (r : Reader) (R : List ℕ) (b : ℕ) (kept : Kept R (r .place)) where
       let h = i .high in
       by-test (leb (r .place) 1)
       (λ e.
-        let m : r .place ≤ 1 = leb-true _ _ e in
-        let z : r .place ≡ 1 = omega arith in
-        Matches.moves refl
-        (ap₂ (λ x Q. goes (closes (nameIn R x) ∷ []) (State.at Q b0)) (let y : r .place - 1 ≡ 0 = omega arith in y ∙ sym slot-after) (up-first R _ z))
-        (record { kept = kept-none R _ kept; fits = Fits.around (Outer.after refl) }))
+      let m : r .place ≤ 1 = leb-true _ _ e in
+      let z : r .place ≡ 1 = omega arith in
+      Matches.moves refl
+      (ap₂ (λ x Q. goes (closes (nameIn R x) ∷ []) (State.at Q b0)) (let y : r .place - 1 ≡ 0 = omega arith in y ∙ sym slot-after) (up-first R _ z))
+      (record { kept = kept-none R _ kept; fits = Fits.around (Outer.after refl) }))
       (λ e.
-        let m : 1 < r .place = leb-false _ _ e in
-        let y : r .place - 1 ≡ suc (r .place - 2) = omega arith in
-        Matches.moves refl
-        (ap₂ (λ x Q. goes (closes (nameIn R x) ∷ []) (State.at Q b0)) (sym (slot-inner (r .place - 1) (omega arith)))
-        (ap (λ x. up (names R x)) y ∙ up-deeper R (r .place - 2) (omega arith) ∙ ap (placeOf R) (sym y)))
-        (record { kept = kept-less R _ h kept; fits = Fits.back (Back.data′ (record { low = omega arith; high = omega arith })) }))
+      let m : 1 < r .place = leb-false _ _ e in
+      let y : r .place - 1 ≡ suc (r .place - 2) = omega arith in
+      Matches.moves refl
+      (ap₂ (λ x Q. goes (closes (nameIn R x) ∷ []) (State.at Q b0)) (sym (slot-inner (r .place - 1) (omega arith)))
+      (ap (λ x. up (names R x)) y ∙ up-deeper R (r .place - 2) (omega arith) ∙ ap (placeOf R) (sym y)))
+      (record { kept = kept-less R _ h kept; fits = Fits.back (Back.data′ (record { low = omega arith; high = omega arith })) }))
 
   pub ended-right :
       Inner (r .place)
@@ -158,15 +158,15 @@ module _ (r : Reader) (R : List ℕ) (b : ℕ) (kept : Kept R (r .place)) where
       by-test (marked marksTable b 16)
       (λ e. Matches.stops (omega arith) (name-next _ _ b (sym (name-mark b) ∙ e)))
       (λ e.
-        by-test (leb 128 b)
-        (λ f. Matches.stops (omega arith) (beyond-next _ _ b (sym (beyond-mark b l) ∙ f)))
-        (λ f.
-          both _ _ (blank-mark b)
-          (λ g. Matches.moves refl refl (record { kept = kept; fits = Fits.ended i }))
-          (λ g.
-            both _ _ refl
-            (λ j. closed-right i)
-            (λ j. Matches.stops (omega arith) (when-false _ _ _ (sym (name-mark b) ∙ e) ∙ when-false _ _ _ (sym (beyond-mark b l) ∙ f))))))
+      by-test (leb 128 b)
+      (λ f. Matches.stops (omega arith) (beyond-next _ _ b (sym (beyond-mark b l) ∙ f)))
+      (λ f.
+      both _ _ (blank-mark b)
+      (λ g. Matches.moves refl refl (record { kept = kept; fits = Fits.ended i }))
+      (λ g.
+      both _ _ refl
+      (λ j. closed-right i)
+      (λ j. Matches.stops (omega arith) (when-false _ _ _ (sym (name-mark b) ∙ e) ∙ when-false _ _ _ (sym (beyond-mark b l) ∙ f))))))
 
   name-long : Inner (r .place) → length (nameIn R (r .place - 1)) ≡ lengthIn R (r .place - 1)
   unfolding nameIn
@@ -194,18 +194,18 @@ module _ (r : Reader) (R : List ℕ) (b : ℕ) (kept : Kept R (r .place)) where
       (by-test (leb (lengthIn R (r .place - 1)) (r .n))
       (λ e. lift (ap (λ s. step bounds s b) (when-false _ _ _ (le-ltb (r .n) (lengthIn R (r .place - 1)) (leb-true _ _ e)))) (whole-right l i))
       (λ e.
-        let h : r .n < lengthIn R (r .place - 1) = leb-false _ _ e in
-        let z = name-long i in
-        lift
-        (ap (λ s. step bounds s b) (when-true _ _ _ (lt-ltb (r .n) (lengthIn R (r .place - 1)) h))
-        ∙ ap (λ v. settle (derive b (word v ∷ [])) otherEnd [] k) (drop-cons name (r .n) 0 (omega arith))
-        ∙ word-step (getD name (r .n) 0) (drop (suc (r .n)) name) otherEnd [] k b
-        ∙ ap (λ c. when (eqb b c) (wordOn (drop (suc (r .n)) name) otherEnd [] k) (refused otherEnd)) (name-byte (r .n) h))
-        (both _ _ refl
-        (λ f.
-          Matches.moves refl
-          (ap (λ m. wordOn (drop m name) otherEnd [] k) (sym (add-one (r .n)))
-          ∙ word-at name (r .n + 1) otherEnd k (ltb (r .n + 1) (length name)) refl
-          ∙ ap (λ x. goes [] (when (ltb (r .n + 1) x) (State.rows (word (drop (r .n + 1) name) ∷ []) otherEnd [] k) k)) z)
-          (record { kept = kept; fits = Fits.end i }))
-        (λ f. Matches.stops (omega arith) refl))))
+      let h : r .n < lengthIn R (r .place - 1) = leb-false _ _ e in
+      let z = name-long i in
+      lift
+      (ap (λ s. step bounds s b) (when-true _ _ _ (lt-ltb (r .n) (lengthIn R (r .place - 1)) h))
+      ∙ ap (λ v. settle (derive b (word v ∷ [])) otherEnd [] k) (drop-cons name (r .n) 0 (omega arith))
+      ∙ word-step (getD name (r .n) 0) (drop (suc (r .n)) name) otherEnd [] k b
+      ∙ ap (λ c. when (eqb b c) (wordOn (drop (suc (r .n)) name) otherEnd [] k) (refused otherEnd)) (name-byte (r .n) h))
+      (both _ _ refl
+      (λ f.
+      Matches.moves refl
+      (ap (λ m. wordOn (drop m name) otherEnd [] k) (sym (add-one (r .n)))
+      ∙ word-at name (r .n + 1) otherEnd k (ltb (r .n + 1) (length name)) refl
+      ∙ ap (λ x. goes [] (when (ltb (r .n + 1) x) (State.rows (word (drop (r .n + 1) name) ∷ []) otherEnd [] k) k)) z)
+      (record { kept = kept; fits = Fits.end i }))
+      (λ f. Matches.stops (omega arith) refl))))

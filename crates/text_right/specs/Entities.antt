@@ -5,9 +5,9 @@
 --   amper-right           after '&', and in an entity
 --
 -- Assumes nothing.
-use Prim.Native.Nat.{ℕ, suc, _+_, _≤_, _<_}
+use Prim.Native.Nat.{ℕ, _+_, _<_}
 use native.Mathlib.Omega.{arith}
-use mathlib.Core.Path.{_≡_, refl, sym, ap, ap₂, _∙_, subst}
+use mathlib.Core.Path.{_≡_, refl, sym, ap, _∙_, subst}
 use mathlib.Core.Bool.{Bool, true, false, not, _&&_, _||_}
 use mathlib.Core.List.{List, [], _∷_}
 use lib.Dec.{T, eqb, ltb, leb→le}
@@ -21,7 +21,6 @@ use Rattle.xml.specs.Machine.{State, goes, settle, pick, step}
 use Rattle.xml.specs.Limited.{bounds}
 use Rattle.chars.specs.Same.{sameBytes}
 use Rattle.chars.specs.Entities.{noEntity, goesOn, entityFrom, entityRow}
-use Rattle.modes.specs.declared.Mode.the-variants as mode
 use Rattle.modes.specs.declared.Reader.{Reader}
 use Rattle.content.specs.Text.{entityTick, amperTick}
 use Rattle.text_right.specs.Stands.{derives, entityLeft, backState, amperState, stateIn, evsIn}
@@ -99,21 +98,21 @@ module _ (r : Reader) (R : List ℕ) (b : ℕ) (kept : Kept R (r .place)) where
       by-test (eqb x noEntity)
       (λ e. Matches.stops (omega arith) (ap (λ z. settle z otherEntity [] k) (same-rows d [] (chosen-true _ (sameRows d []) _ e t))))
       (λ e.
-        let u = chosen-false (eqb x noEntity) (sameRows d []) (when (eqb b 59) (spent d) (sameRows d more && (waits d && entityOk x (r .n + 1)))) e t in
-        by-test (eqb b 59)
-        (λ f.
-          Matches.moves refl
-          (settle-spent d otherEntity [] k (chosen-true (eqb b 59) (spent d) _ f u) ∙ ap (goes []) (sym (back-is R (r .back) _ _ _ _ h)))
-          (record { kept = kept; fits = Fits.back h }))
-        (λ f.
-          let v = chosen-false (eqb b 59) (spent d) (sameRows d more && (waits d && entityOk x (r .n + 1))) f u in
-          let w = and-r (sameRows d more) (waits d && entityOk x (r .n + 1)) v in
-          turn (when-false _ _ _ (lt-leb 5 (r .n) few))
-          (Matches.moves refl
-          (settle-waits d otherEntity [] k (and-l (waits d) (entityOk x (r .n + 1)) w)
-          ∙ ap (λ z. goes [] (State.rows z otherEntity [] k)) (same-rows d more (and-l (sameRows d more) (waits d && entityOk x (r .n + 1)) v))
-          ∙ ap (goes []) (sym (when-false _ _ _ (ne-eqb (r .n + 1) 0 (λ z. omega arith)))))
-          (record { kept = kept; fits = Fits.amper h (record { holds = and-r (waits d) (entityOk x (r .n + 1)) w }) }))))
+      let u = chosen-false (eqb x noEntity) (sameRows d []) (when (eqb b 59) (spent d) (sameRows d more && (waits d && entityOk x (r .n + 1)))) e t in
+      by-test (eqb b 59)
+      (λ f.
+      Matches.moves refl
+      (settle-spent d otherEntity [] k (chosen-true (eqb b 59) (spent d) _ f u) ∙ ap (goes []) (sym (back-is R (r .back) _ _ _ _ h)))
+      (record { kept = kept; fits = Fits.back h }))
+      (λ f.
+      let v = chosen-false (eqb b 59) (spent d) (sameRows d more && (waits d && entityOk x (r .n + 1))) f u in
+      let w = and-r (sameRows d more) (waits d && entityOk x (r .n + 1)) v in
+      turn (when-false _ _ _ (lt-leb 5 (r .n) few))
+      (Matches.moves refl
+      (settle-waits d otherEntity [] k (and-l (waits d) (entityOk x (r .n + 1)) w)
+      ∙ ap (λ z. goes [] (State.rows z otherEntity [] k)) (same-rows d more (and-l (sameRows d more) (waits d && entityOk x (r .n + 1)) v))
+      ∙ ap (goes []) (sym (when-false _ _ _ (ne-eqb (r .n + 1) 0 (λ z. omega arith)))))
+      (record { kept = kept; fits = Fits.amper h (record { holds = and-r (waits d) (entityOk x (r .n + 1)) w }) }))))
 
   pub amper-right :
       b < 256 → Back R (r .place) (r .count) (r .back) → EntityAt (r .row) (r .n)
@@ -123,10 +122,10 @@ module _ (r : Reader) (R : List ℕ) (b : ℕ) (kept : Kept R (r .place)) where
       let k = backState R (r .place) (r .count) (r .back) in
       by-test (eqb (r .n) 0)
       (λ e.
-        lift (ap (λ s. step bounds s b) (when-true _ _ _ e))
-        (both _ _ refl
-        (λ f. Matches.stops (omega arith) refl)
-        (λ f.
-          lift (ap (λ z. settle (derive b z) otherEntity [] k) (none-left (r .row) ∙ ap (entityLeft (r .row)) (sym (eqb-true (r .n) 0 e))))
-          (entity-right l h ok))))
+      lift (ap (λ s. step bounds s b) (when-true _ _ _ e))
+      (both _ _ refl
+      (λ f. Matches.stops (omega arith) refl)
+      (λ f.
+      lift (ap (λ z. settle (derive b z) otherEntity [] k) (none-left (r .row) ∙ ap (entityLeft (r .row)) (sym (eqb-true (r .n) 0 e))))
+      (entity-right l h ok))))
       (λ e. lift (ap (λ s. step bounds s b) (when-false _ _ _ e)) (entity-right l h ok))

@@ -77,6 +77,7 @@ below (suc k) f t n h = go (eqb n k) refl (and-l (f k) (upTo k f) t) (λ d. belo
   where
     less : (n ≡ k → ⊥) → n < k
     less d = omega arith
+
     go : (x : Bool) → eqb n k ≡ x → T (f k) → ((n ≡ k → ⊥) → T (f n)) → T (f n)
     go true e u g = subst (λ z. T (f z)) (sym (eqb-true n k e)) u
     go false e u g = g (eqb-false n k e)

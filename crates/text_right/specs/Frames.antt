@@ -10,7 +10,7 @@
 --   names-length, name-length, begun-length      how many names, and how long they are
 --
 -- Assumes nothing.
-use Prim.Native.Nat.{ℕ, zero, suc, _+_, _*_, _-_, min, _≤_, _<_}
+use Prim.Native.Nat.{ℕ, zero, suc, _+_, _*_, _-_, _≤_, _<_}
 use native.Mathlib.Omega.{arith}
 use native.Mathlib.Numerals.{add-one}
 use mathlib.Core.Path.{_≡_, refl, sym, ap, ap₂, _∙_, subst}
@@ -19,14 +19,14 @@ use mathlib.Core.List.{List, [], _∷_, _++_}
 use lib.Dec.{eqb, ltb}
 use lib.ListN.{length, getD, set, take, drop, length-take, length-drop, length-set}
 use lib.Seq.{getD-set-same, getD-set-other, take-set-le, drop-set-lt, drop-set-add, take-suc-set}
-use borrow.Author.Tests.{eq-eqb, ne-eqb, eqb-true, eqb-false, ltb-true, ltb-false, le-ltb}
+use borrow.Author.Tests.{eq-eqb, ne-eqb, eqb-true, eqb-false, ltb-false, le-ltb}
 use Rattle.choice.specs.When.{when, when-true, when-false, when-known}
 use Rattle.xml.specs.Machine.{Place}
 use Rattle.slots.specs.Slots.{attributeSlot, baseOf, lengthIn, nameIn}
 use Rattle.slots.specs.Slots.Laws.{base-inside}
 use Rattle.content.specs.Text.{afterPlace}
 use Rattle.text_right.specs.Stands.{names, attsOf, placeOf, begunIn}
-use Rattle.text_right.specs.Sound.{Inner, openAt, Kept}
+use Rattle.text_right.specs.Sound.{openAt, Kept}
 
 pub base-is : (s : ℕ) → s < 272 → baseOf s ≡ s * 68
 base-is s h = sym (base-inside s h)
@@ -93,7 +93,7 @@ module _ (R : List ℕ) (i v : ℕ) where
       record {
         long = length-set R i v ∙ k .long;
         filled =
-          λ s m.
+            λ s m.
             let m′ : s < openAt p = m in
             let q : openAt p ≡ p = when-false _ _ _ (ne-eqb p afterPlace (λ z. omega arith)) in
             let u : s < p = omega arith in
@@ -160,7 +160,7 @@ kept-less R p l k =
     record {
       long = k .long;
       filled =
-        λ s m.
+          λ s m.
           let m′ : s < openAt (p - 1) = m in
           let u = open-is (p - 1) (omega arith) in
           let w = open-is p l in

@@ -6,15 +6,15 @@
 --   none-walk             a mode without a loop
 --
 -- Assumes nothing.
-use Prim.Native.Nat.{ℕ, zero, suc, _+_, _≤_, _<_}
+use Prim.Native.Nat.{ℕ, _+_, _<_}
 use native.Mathlib.Omega.{arith}
-use mathlib.Core.Path.{_≡_, refl, sym, ap, _∙_, subst}
-use mathlib.Core.Bool.{Bool, true, false}
+use mathlib.Core.Path.{_≡_, refl, sym, ap, _∙_}
+use mathlib.Core.Bool.{true, false}
 use mathlib.Core.List.{List, [], _∷_, _++_}
-use lib.Dec.{T, eqb, leb}
+use lib.Dec.{eqb, leb}
 use lib.ListN.{length, getD, set}
 use borrow.Author.Tests.{eqb-true, leb-false}
-use Rattle.choice.specs.When.{when, when-known, when-true, when-false, never}
+use Rattle.choice.specs.When.{when-known, never}
 use Rattle.xml.specs.Class.{inClass}
 use Rattle.chars.specs.Marks.{marked, span}
 use Rattle.slots.specs.Slots.{baseOf, lengthIn}
@@ -53,41 +53,41 @@ module _ (r : Reader) (R : List ℕ) (mark : ℕ)
   skips-walk (b ∷ t) g z at =
       when-known (λ n. Walks (noted r g z (r .n)) R (b ∷ t) at (record { at = at + n; n = r .n; room = R })) (marked marksTable b mark) _ _
       (λ e.
-        let w = skips-walk t gives.Nothing 0 (at + 1) in
-        record {
-          over = b ∷ w .over;
-          rest = w .rest;
-          split = ap (λ u. b ∷ u) (w .split);
-          far = let y = w .far in omega arith;
-          quiet = byte (f g z b e) refl (w .quiet);
-        })
+      let w = skips-walk t gives.Nothing 0 (at + 1) in
+      record {
+        over = b ∷ w .over;
+        rest = w .rest;
+        split = ap (λ u. b ∷ u) (w .split);
+        far = let y = w .far in omega arith;
+        quiet = byte (f g z b e) refl (w .quiet);
+      })
       (λ e. record { over = []; rest = b ∷ t; split = refl; far = refl; quiet = done })
 
 module _ (r : Reader) (s : ℕ)
     (f : (g : Gives) (z n b : ℕ) (R : List ℕ) → marked marksTable b nameMark ≡ true → n < 64
-        → tick marksTable (noted r g z n) b R ≡ kept (spellOn r (r .mode) (r .row) (n + 1)) (set R (baseOf s + n) b)) where
+    → tick marksTable (noted r g z n) b R ≡ kept (spellOn r (r .mode) (r .row) (n + 1)) (set R (baseOf s + n) b)) where
   pub copies-walk : (t : List ℕ) (g : Gives) (z n at : ℕ) (R : List ℕ) → Walks (noted r g z n) R t at (copied marksTable R s n at t)
   unfolding copied
   copies-walk [] g z n at R = stays (noted r g z n) R [] at
   copies-walk (b ∷ t) g z n at R =
       when-known (Walks (noted r g z n) R (b ∷ t) at) (marked marksTable b nameMark) _ _
       (λ e.
-        when-known (Walks (noted r g z n) R (b ∷ t) at) (leb 64 n) _ _
-        (λ k. stays (noted r g z n) R (b ∷ t) at)
-        (λ k.
-          let w = copies-walk t gives.Nothing 0 (n + 1) (at + 1) (set R (baseOf s + n) b) in
-          record {
-            over = b ∷ w .over;
-            rest = w .rest;
-            split = ap (λ u. b ∷ u) (w .split);
-            far = let y = w .far in omega arith;
-            quiet = byte (f g z n b R e (leb-false _ _ k)) refl (w .quiet);
-          }))
+      when-known (Walks (noted r g z n) R (b ∷ t) at) (leb 64 n) _ _
+      (λ k. stays (noted r g z n) R (b ∷ t) at)
+      (λ k.
+      let w = copies-walk t gives.Nothing 0 (n + 1) (at + 1) (set R (baseOf s + n) b) in
+      record {
+        over = b ∷ w .over;
+        rest = w .rest;
+        split = ap (λ u. b ∷ u) (w .split);
+        far = let y = w .far in omega arith;
+        quiet = byte (f g z n b R e (leb-false _ _ k)) refl (w .quiet);
+      }))
       (λ e. stays (noted r g z n) R (b ∷ t) at)
 
 module _ (r : Reader) (R : List ℕ) (s : ℕ)
     (f : (g : Gives) (z n b : ℕ) → n < lengthIn R s → b ≡ getD R (baseOf s + n) 0
-        → tick marksTable (noted r g z n) b R ≡ kept (spellOn r (r .mode) (r .row) (n + 1)) R) where
+    → tick marksTable (noted r g z n) b R ≡ kept (spellOn r (r .mode) (r .row) (n + 1)) R) where
   pub agrees-walk : (t : List ℕ) (g : Gives) (z n at : ℕ) → Walks (noted r g z n) R t at (beside (agreed R s n at t) R)
   unfolding agreed
   agrees-walk [] g z n at = stays (noted r g z n) R [] at
@@ -95,17 +95,17 @@ module _ (r : Reader) (R : List ℕ) (s : ℕ)
       when-known (λ (x : Agreed). Walks (noted r g z n) R (b ∷ t) at (beside x R)) (leb (lengthIn R s) n) _ _
       (λ e. stays (noted r g z n) R (b ∷ t) at)
       (λ e.
-        when-known (λ (x : Agreed). Walks (noted r g z n) R (b ∷ t) at (beside x R)) (eqb b (getD R (baseOf s + n) 0)) _ _
-        (λ k.
-          let w = agrees-walk t gives.Nothing 0 (n + 1) (at + 1) in
-          record {
-            over = b ∷ w .over;
-            rest = w .rest;
-            split = ap (λ u. b ∷ u) (w .split);
-            far = let y = w .far in omega arith;
-            quiet = byte (f g z n b (leb-false _ _ e) (eqb-true _ _ k)) refl (w .quiet);
-          })
-        (λ k. stays (noted r g z n) R (b ∷ t) at))
+      when-known (λ (x : Agreed). Walks (noted r g z n) R (b ∷ t) at (beside x R)) (eqb b (getD R (baseOf s + n) 0)) _ _
+      (λ k.
+      let w = agrees-walk t gives.Nothing 0 (n + 1) (at + 1) in
+      record {
+        over = b ∷ w .over;
+        rest = w .rest;
+        split = ap (λ u. b ∷ u) (w .split);
+        far = let y = w .far in omega arith;
+        quiet = byte (f g z n b (leb-false _ _ e) (eqb-true _ _ k)) refl (w .quiet);
+      })
+      (λ k. stays (noted r g z n) R (b ∷ t) at))
 
 no-mark : (b : ℕ) → marked marksTable b 0 ≡ false
 unfolding every agrees same marksTable inClass low

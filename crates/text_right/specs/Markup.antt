@@ -6,31 +6,28 @@
 --   markup-right             after '<';  first-right: after '<' at the very start of the text
 --
 -- Assumes nothing.
-use Prim.Native.Nat.{ℕ, suc, _+_, _*_, _-_, _≤_, _<_}
+use Prim.Native.Nat.{ℕ, suc, _+_, _-_, _≤_, _<_}
 use native.Mathlib.Omega.{arith}
-use mathlib.Core.Path.{_≡_, refl, sym, ap, ap₂, _∙_, subst}
+use mathlib.Core.Path.{_≡_, refl, sym, ap, ap₂, _∙_}
 use mathlib.Core.Logic.{inl}
 use mathlib.Core.Bool.{Bool, true, false}
 use mathlib.Core.List.{List, [], _∷_}
 use lib.Dec.{eqb, leb, ltb}
-use lib.ListN.{length, set}
-use borrow.Author.Tests.{eq-eqb, ne-eqb, eqb-true, eqb-false, leb-true, leb-false, le-leb, lt-leb, ltb-true, ltb-false, lt-ltb}
+use lib.ListN.{length}
+use borrow.Author.Tests.{ne-eqb, eqb-true, eqb-false, leb-true, leb-false, le-leb, lt-leb, ltb-true, ltb-false, lt-ltb}
 use Rattle.choice.specs.When.{when, when-true, when-false}
 use Rattle.meaning.specs.Limits.{depthLimit}
 use Rattle.meaning.specs.Limits.Laws.{depth-is}
-use Rattle.xml.specs.Class.{inClass, word}
+use Rattle.xml.specs.Class.{inClass}
 use Rattle.xml.specs.Chars.{beyond}
 use Rattle.xml.specs.Refused
 use Rattle.xml.specs.Refused.{misplaced, longName}
 use Rattle.xml.specs.Bounds.{nameLimit}
 use Rattle.xml.specs.Bounds.Laws.{name-limit-is}
-use Rattle.xml.specs.Grammar.{b0}
-use Rattle.xml.specs.Machine.{Place, State, Outcome, refused, goes, check, foreign, begins, slashed, markupArms, pick, step}
+use Rattle.xml.specs.Machine.{State, Outcome, refused, goes, check, foreign, begins, slashed, markupArms, pick, step}
 use Rattle.xml.specs.Limited.{bounds}
-use Rattle.slots.specs.Slots.{baseOf, lengthIn, nameIn}
+use Rattle.slots.specs.Slots.{baseOf, lengthIn}
 use Rattle.modes.specs.declared.Mode.{Mode}
-use Rattle.modes.specs.declared.Mode.the-variants as mode
-use Rattle.modes.specs.declared.Prolog.the-variants as prolog
 use Rattle.modes.specs.declared.Reader.{Reader}
 use Rattle.modes.specs.Moves.{refuseWith}
 use Rattle.content.specs.Text.{afterPlace}
@@ -39,10 +36,9 @@ use Rattle.tags.specs.Markup.{begun, slashedTick, markupTick, firstTick}
 use Rattle.tags.specs.Found.{not-deeper, deeper}
 use Rattle.text_right.specs.Marked.{marksTable, start-mark, beyond-mark}
 use Rattle.text_right.specs.Stands.{names, placeOf, begunIn, endState, bangState, prologState, stateIn, evsIn}
-use Rattle.text_right.specs.Sound.{Inner, Outer, Spot, openAt, Kept, FitsIn, Fits}
-use Rattle.text_right.specs.Matched.{Matches, Ticks, lift, turn, both, both-ticks, by-test, by-ticks, place-before, place-after, place-inner}
+use Rattle.text_right.specs.Sound.{Inner, Outer, Spot, Kept, FitsIn, Fits}
+use Rattle.text_right.specs.Matched.{Matches, Ticks, lift, turn, both-ticks, by-test, by-ticks, place-before, place-after, place-inner}
 use Rattle.text_right.specs.Frames.{base-is, begun-more, place-kept, kept-set, names-length, open-is}
-use Rattle.text_right.specs.Content.{innerOf}
 
 pub check-yes : (x : Bool) (r : ℕ) (o : Outcome) → x ≡ true → check x r o ≡ o
 unfolding check
@@ -94,20 +90,20 @@ module _ (r : Reader) (R : List ℕ) (b : ℕ) (kept : Kept R (r .place)) where
       (by-ticks (eqb p afterPlace)
       (λ e. let z : r .place ≡ afterPlace = eqb-true _ _ e in absurd (omega arith))
       (λ e.
-        by-ticks (leb depthLimit p)
-        (λ f.
-          let m : depthLimit ≤ r .place = leb-true _ _ f in
-          Matches.stops (omega arith) (check-no _ _ _ (lt-leb (p + 1) depthLimit (omega arith))))
-        (λ f.
-          let m : r .place < depthLimit = leb-false _ _ f in
-          let d = depth-is in
-          let g = base-is (r .place) (omega arith) in
-          let u = kept .long in
-          Matches.moves refl
-          (check-yes _ _ _ (le-leb (p + 1) depthLimit (omega arith))
-          ∙ check-yes _ _ _ one-fits
-          ∙ ap₂ (λ P n. goes [] (State.tag P n)) (sym (place-kept R (baseOf p + 0) b p l (omega arith))) (sym (begun-more R p 0 b (omega arith))))
-          (record { kept = kept-set R (baseOf p + 0) b l (omega arith) kept; fits = Fits.tag (omega arith) (omega arith) (omega arith) }))))
+      by-ticks (leb depthLimit p)
+      (λ f.
+      let m : depthLimit ≤ r .place = leb-true _ _ f in
+      Matches.stops (omega arith) (check-no _ _ _ (lt-leb (p + 1) depthLimit (omega arith))))
+      (λ f.
+      let m : r .place < depthLimit = leb-false _ _ f in
+      let d = depth-is in
+      let g = base-is (r .place) (omega arith) in
+      let u = kept .long in
+      Matches.moves refl
+      (check-yes _ _ _ (le-leb (p + 1) depthLimit (omega arith))
+      ∙ check-yes _ _ _ one-fits
+      ∙ ap₂ (λ P n. goes [] (State.tag P n)) (sym (place-kept R (baseOf p + 0) b p l (omega arith))) (sym (begun-more R p 0 b (omega arith))))
+      (record { kept = kept-set R (baseOf p + 0) b l (omega arith) kept; fits = Fits.tag (omega arith) (omega arith) (omega arith) }))))
 
   begun-right : Spot (r .place) → Ticks (begins bounds (placeOf R (r .place)) b) (begun r b R)
   unfolding begun
@@ -151,10 +147,10 @@ module _ (r : Reader) (R : List ℕ) (b : ℕ) (kept : Kept R (r .place)) where
       by-ticks (ltb b 128)
       (λ e. Matches.stops (omega arith) (when-false _ _ _ (sym (beyond-mark b l) ∙ lt-leb 128 b (ltb-true _ _ e))))
       (λ e.
-        let z : inClass beyond b ≡ true = sym (beyond-mark b l) ∙ le-leb 128 b (ltb-false _ _ e) in
-        by-ticks (eqb (r .place) afterPlace)
-        (λ f. Matches.stops (omega arith) (when-true _ _ _ z ∙ ap foreign (place-after R _ (eqb-true _ _ f))))
-        (λ f. Matches.stops (omega arith) (when-true _ _ _ z ∙ foreign-is h (eqb-false _ _ f))))
+      let z : inClass beyond b ≡ true = sym (beyond-mark b l) ∙ le-leb 128 b (ltb-false _ _ e) in
+      by-ticks (eqb (r .place) afterPlace)
+      (λ f. Matches.stops (omega arith) (when-true _ _ _ z ∙ ap foreign (place-after R _ (eqb-true _ _ f))))
+      (λ f. Matches.stops (omega arith) (when-true _ _ _ z ∙ foreign-is h (eqb-false _ _ f))))
     where
       foreign-is : Spot (r .place) → (r .place ≡ afterPlace → ⊥) → foreign (placeOf R (r .place)) ≡ refused Refused.foreignName
       foreign-is (Spot.outer (Outer.before e)) f = ap foreign (place-before R _ e)
@@ -167,12 +163,12 @@ module _ (r : Reader) (R : List ℕ) (b : ℕ) (kept : Kept R (r .place)) where
       both-ticks _ _ (start-mark b)
       (λ e. begun-right h)
       (λ e.
-        both-ticks _ _ refl
-        (λ f. Matches.moves refl (ap (goes []) (second-is R _ _ _ _)) (record { kept = kept; fits = Fits.bang h (inl refl) }))
-        (λ f.
-          both-ticks _ _ refl
-          (λ g. slashed-right h)
-          (λ g. both-ticks _ _ refl (λ i. Matches.stops (omega arith) refl) (λ i. foreign-right l h))))
+      both-ticks _ _ refl
+      (λ f. Matches.moves refl (ap (goes []) (second-is R _ _ _ _)) (record { kept = kept; fits = Fits.bang h (inl refl) }))
+      (λ f.
+      both-ticks _ _ refl
+      (λ g. slashed-right h)
+      (λ g. both-ticks _ _ refl (λ i. Matches.stops (omega arith) refl) (λ i. foreign-right l h))))
 
   pub first-right : b < 256 → r .place ≡ 0 → Ticks (step bounds State.opening b) (firstTick marksTable r b R)
   unfolding firstTick stateIn prologState evsIn step pick

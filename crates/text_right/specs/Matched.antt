@@ -10,15 +10,15 @@
 --   wordOn, word-step      a byte of one spelling
 --
 -- Assumes nothing.
-use Prim.Native.Nat.{ℕ, zero, suc, _-_, _≤_, _<_}
+use Prim.Native.Nat.{ℕ, _-_, _≤_, _<_}
 use native.Mathlib.Omega.{arith}
 use mathlib.Core.Path.{_≡_, refl, sym, ap, _∙_, subst}
 use mathlib.Core.Bool.{Bool, true, false, _&&_, _||_}
 use mathlib.Core.List.{List, [], _∷_}
 use lib.Dec.{eqb, leb}
-use borrow.Author.Tests.{eq-eqb, ne-eqb, eqb-true, eqb-false, le-leb, lt-leb, leb-true, leb-false}
+use borrow.Author.Tests.{eq-eqb, ne-eqb, eqb-true, eqb-false, le-leb, lt-leb, leb-true}
 use Rattle.choice.specs.When.{when, when-true, when-false, never}
-use Rattle.xml.specs.Class.{Rows, only, inClass, keep, derive, word}
+use Rattle.xml.specs.Class.{only, inClass, keep, derive, word}
 use Rattle.xml.specs.Grammar.{Ev}
 use Rattle.xml.specs.Machine.{Place, State, Outcome, refused, goes, settle}
 use Rattle.slots.specs.Slots.{nameIn}
@@ -99,6 +99,7 @@ only-is c b = go (eqb b c) refl
     and-false : (x : Bool) → ((x && false) || false) ≡ false
     and-false true = refl
     and-false false = refl
+
     less : (x : Bool) → leb c b ≡ x → (b ≡ c → ⊥) → ((leb c b && leb b c) || false) ≡ false
     less true e f =
         let l : c ≤ b = leb-true c b e in
@@ -107,6 +108,7 @@ only-is c b = go (eqb b c) refl
         more : c ≤ b → (b ≡ c → ⊥) → c < b
         more l f = omega arith
     less false e f = ap (λ y. (y && leb b c) || false) e
+
     go : (x : Bool) → eqb b c ≡ x → ((leb c b && leb b c) || false) ≡ x
     go true e =
         let q : b ≡ c = eqb-true b c e in

@@ -9,19 +9,19 @@
 use Prim.Native.Nat.{ℕ, suc, _+_, _*_, _≤_, _<_}
 use native.Mathlib.Omega.{arith}
 use mathlib.Core.Path.{_≡_, refl, sym, ap, ap₂, _∙_, subst}
-use mathlib.Core.Bool.{Bool, true, false, not}
+use mathlib.Core.Bool.{not}
 use mathlib.Core.List.{List, [], _∷_, _++_}
-use lib.Dec.{eqb, leb, ltb}
-use lib.ListN.{length, getD, set, length-append}
+use lib.Dec.{eqb, leb}
+use lib.ListN.{length, set, length-append}
 use lib.Seq.{getD-set-same, getD-set-other}
-use borrow.Author.Tests.{eqb-true, leb-true, leb-false, le-leb, lt-leb, le-ltb}
-use Rattle.choice.specs.When.{when, when-true, when-false}
+use borrow.Author.Tests.{leb-true, leb-false, le-leb, lt-leb, le-ltb}
+use Rattle.choice.specs.When.{when-false}
 use Rattle.xml.specs.Refused
-use Rattle.xml.specs.Refused.{misplaced, longName}
+use Rattle.xml.specs.Refused.{longName}
 use Rattle.xml.specs.Bounds.{nameLimit, attributeLimit}
 use Rattle.xml.specs.Bounds.Laws.{name-limit-is, attribute-limit-is}
 use Rattle.xml.specs.Grammar.{among}
-use Rattle.xml.specs.Machine.{Place, State, Outcome, refused, goes, check, longer, named, closeArms, pick, step}
+use Rattle.xml.specs.Machine.{Place, State, Outcome, goes, check, longer, named, closeArms, pick, step}
 use Rattle.xml.specs.Limited.{bounds}
 use Rattle.slots.specs.Slots.{attributeSlot, baseOf, lengthIn, nameIn}
 use Rattle.slots.specs.Copied.{doubledIn}
@@ -59,6 +59,7 @@ in-tag-kept R i v {p} {k} h t =
   where
     less : (j : ℕ) → j < k → k ≤ 16 → attributeSlot + j < 272
     less j m f = omega arith
+
     other : (j : ℕ) → j < k → baseOf (attributeSlot + j) ≡ (attributeSlot + j) * 68 → (baseOf (attributeSlot + j) + 64 ≡ i → ⊥)
     other j m e z = omega arith
 
@@ -78,19 +79,19 @@ module _ (r : Reader) (R : List ℕ) (b : ℕ) (kept : Kept R (r .place)) where
       let u = kept .long in
       let v = name-limit-is in
       let w : length (begunIn R s (r .n) ++ (b ∷ [])) ≡ r .n + 1 =
-        length-append (begunIn R s (r .n)) (b ∷ []) ∙ ap (λ z. z + 1) (begun-length R s (r .n) (omega arith)) in
+      length-append (begunIn R s (r .n)) (b ∷ []) ∙ ap (λ z. z + 1) (begun-length R s (r .n) (omega arith)) in
       by-ticks (leb nameLimit (r .n))
       (λ g.
-        let z : nameLimit ≤ r .n = leb-true _ _ g in
-        Matches.stops (omega arith) (check-no _ _ _ (lt-leb (length (begunIn R s (r .n) ++ (b ∷ []))) nameLimit (omega arith))))
+      let z : nameLimit ≤ r .n = leb-true _ _ g in
+      Matches.stops (omega arith) (check-no _ _ _ (lt-leb (length (begunIn R s (r .n) ++ (b ∷ []))) nameLimit (omega arith))))
       (λ g.
-        let z : r .n < nameLimit = leb-false _ _ g in
-        let y : r .n < 64 = omega arith in
-        Matches.moves refl
-        (check-yes _ _ _ (le-leb (length (begunIn R s (r .n) ++ (b ∷ []))) nameLimit (omega arith))
-        ∙ ap (λ w. goes [] (f w)) (sym (begun-more R s (r .n) b (omega arith)))
-        ∙ ap (goes []) (is y))
-        (ok y))
+      let z : r .n < nameLimit = leb-false _ _ g in
+      let y : r .n < 64 = omega arith in
+      Matches.moves refl
+      (check-yes _ _ _ (le-leb (length (begunIn R s (r .n) ++ (b ∷ []))) nameLimit (omega arith))
+      ∙ ap (λ w. goes [] (f w)) (sym (begun-more R s (r .n) b (omega arith)))
+      ∙ ap (goes []) (is y))
+      (ok y))
 
   module _ (deep : r .place < 256) (low : 1 ≤ r .n) (most : r .n ≤ 64) where
     -- the tag's name is whole
@@ -129,33 +130,33 @@ module _ (r : Reader) (R : List ℕ) (b : ℕ) (kept : Kept R (r .place)) where
         let e = base-is (r .place) (omega arith) in
         both-ticks _ _ (name-mark b)
         (λ f.
-          longer-right (r .place) mode.Tag (State.tag (placeOf R (r .place))) (omega arith) low most
-          (λ g.
-            ap (λ P. State.tag P (begunIn (set R (baseOf (r .place) + r .n) b) (r .place) (r .n + 1)))
-            (sym (place-kept R (baseOf (r .place) + r .n) b (r .place) (omega arith) (omega arith))))
-          (λ g.
-            record {
-              kept = kept-set R (baseOf (r .place) + r .n) b (omega arith) (omega arith) kept;
-              fits = Fits.tag deep (omega arith) (omega arith);
-            }))
+        longer-right (r .place) mode.Tag (State.tag (placeOf R (r .place))) (omega arith) low most
+        (λ g.
+        ap (λ P. State.tag P (begunIn (set R (baseOf (r .place) + r .n) b) (r .place) (r .n + 1)))
+        (sym (place-kept R (baseOf (r .place) + r .n) b (r .place) (omega arith) (omega arith))))
+        (λ g.
+        record {
+          kept = kept-set R (baseOf (r .place) + r .n) b (omega arith) (omega arith) kept;
+          fits = Fits.tag deep (omega arith) (omega arith);
+        }))
         (λ f.
-          both-ticks _ _ (blank-mark b)
-          (λ g.
-            Matches.moves refl (ap₂ (λ P n. goes [] (State.gap P n [])) whole-place whole-name)
-            (record {
-              kept = whole-kept;
-              fits = Fits.gap (record { deep = deep; named = whole-length; few = omega arith; short = λ j m. absurd (none j m) });
-            }))
-          (λ g.
-            both-ticks _ _ (beyond-mark b l)
-            (λ h. Matches.stops (omega arith) refl)
-            (λ h.
-              by-ticks (eqb b 62)
-              (λ i. close-tag)
-              (λ i.
-                by-ticks (eqb b 47)
-                (λ j. close-tag)
-                (λ j. Matches.stops (omega arith) (when-false _ _ _ i ∙ when-false _ _ _ j))))))
+        both-ticks _ _ (blank-mark b)
+        (λ g.
+        Matches.moves refl (ap₂ (λ P n. goes [] (State.gap P n [])) whole-place whole-name)
+        (record {
+          kept = whole-kept;
+          fits = Fits.gap (record { deep = deep; named = whole-length; few = omega arith; short = λ j m. absurd (none j m) });
+        }))
+        (λ g.
+        both-ticks _ _ (beyond-mark b l)
+        (λ h. Matches.stops (omega arith) refl)
+        (λ h.
+        by-ticks (eqb b 62)
+        (λ i. close-tag)
+        (λ i.
+        by-ticks (eqb b 47)
+        (λ j. close-tag)
+        (λ j. Matches.stops (omega arith) (when-false _ _ _ i ∙ when-false _ _ _ j))))))
       where
         none : (j : ℕ) → j < 0 → ⊥
         none j m = omega arith
@@ -176,26 +177,26 @@ module _ (r : Reader) (R : List ℕ) (b : ℕ) (kept : Kept R (r .place)) where
       let w = atts-length R (r .count) in
       by-ticks (leb attributeLimit (r .count))
       (λ e.
-        let z : attributeLimit ≤ r .count = leb-true _ _ e in
-        Matches.stops (omega arith) (check-no _ _ _ (lt-leb (suc (length (attsOf R (r .count)))) attributeLimit (omega arith))))
+      let z : attributeLimit ≤ r .count = leb-true _ _ e in
+      Matches.stops (omega arith) (check-no _ _ _ (lt-leb (suc (length (attsOf R (r .count)))) attributeLimit (omega arith))))
       (λ e.
-        let z : r .count < attributeLimit = leb-false _ _ e in
-        let f = base-is s (omega arith) in
-        let g = base-is (r .place) (omega arith) in
-        let R′ = set R (baseOf s + 0) b in
-        Matches.moves refl
-        (check-yes _ _ _ (le-leb (suc (length (attsOf R (r .count)))) attributeLimit (omega arith))
-        ∙ check-yes _ _ _ one-fits
-        ∙ ap₂ (λ P n. goes [] (State.att P n (attsOf R (r .count)) (b ∷ [])))
-        (sym (place-kept R (baseOf s + 0) b (r .place) (omega arith) (omega arith)))
-        (sym (name-kept R (baseOf s + 0) b (r .place) (Out.over (omega arith))))
-        ∙ ap₂ (λ ms m. goes [] (State.att (placeOf R′ (r .place)) (nameIn R′ (r .place)) ms m))
-        (sym (atts-kept R (baseOf s + 0) b (r .count) (omega arith) (omega arith)))
-        (sym (begun-more R s 0 b (omega arith))))
-        (record {
-          kept = kept-set R (baseOf s + 0) b (omega arith) (omega arith) kept;
-          fits = Fits.att (in-tag-kept R (baseOf s + 0) b (omega arith) h) (omega arith) (omega arith) (omega arith);
-        }))
+      let z : r .count < attributeLimit = leb-false _ _ e in
+      let f = base-is s (omega arith) in
+      let g = base-is (r .place) (omega arith) in
+      let R′ = set R (baseOf s + 0) b in
+      Matches.moves refl
+      (check-yes _ _ _ (le-leb (suc (length (attsOf R (r .count)))) attributeLimit (omega arith))
+      ∙ check-yes _ _ _ one-fits
+      ∙ ap₂ (λ P n. goes [] (State.att P n (attsOf R (r .count)) (b ∷ [])))
+      (sym (place-kept R (baseOf s + 0) b (r .place) (omega arith) (omega arith)))
+      (sym (name-kept R (baseOf s + 0) b (r .place) (Out.over (omega arith))))
+      ∙ ap₂ (λ ms m. goes [] (State.att (placeOf R′ (r .place)) (nameIn R′ (r .place)) ms m))
+      (sym (atts-kept R (baseOf s + 0) b (r .count) (omega arith) (omega arith)))
+      (sym (begun-more R s 0 b (omega arith))))
+      (record {
+        kept = kept-set R (baseOf s + 0) b (omega arith) (omega arith) kept;
+        fits = Fits.att (in-tag-kept R (baseOf s + 0) b (omega arith) h) (omega arith) (omega arith) (omega arith);
+      }))
 
   pub gap-right :
       b < 256 → InTag R (r .place) (r .count)
@@ -205,12 +206,12 @@ module _ (r : Reader) (R : List ℕ) (b : ℕ) (kept : Kept R (r .place)) where
       both-ticks _ _ (start-mark b)
       (λ e. att-begun h)
       (λ e.
-        both-ticks _ _ (blank-mark b)
-        (λ f. Matches.moves refl refl (record { kept = kept; fits = Fits.gap h }))
-        (λ f.
-          both-ticks _ _ (beyond-mark b l)
-          (λ g. Matches.stops (omega arith) refl)
-          (λ g. close-right r R b kept (h .deep) (h .named))))
+      both-ticks _ _ (blank-mark b)
+      (λ f. Matches.moves refl refl (record { kept = kept; fits = Fits.gap h }))
+      (λ f.
+      both-ticks _ _ (beyond-mark b l)
+      (λ g. Matches.stops (omega arith) refl)
+      (λ g. close-right r R b kept (h .deep) (h .named))))
 
   module _ (tag : InTag R (r .place) (r .count)) (few : r .count < 16) (low : 1 ≤ r .n) (most : r .n ≤ 64) where
     -- the slot of the attribute, and the room with its name whole
@@ -267,8 +268,8 @@ module _ (r : Reader) (R : List ℕ) (b : ℕ) (kept : Kept R (r .place)) where
         (by-ticks (doubledIn R (r .count) (r .n))
         (λ e. Matches.stops (omega arith) (check-no _ _ _ (ap not (sym same ∙ e))))
         (λ e.
-          Matches.moves refl (check-yes _ _ _ (ap not (sym same ∙ e)) ∙ ap (goes []) (done-is f ∙ is))
-          (record { kept = done-kept; fits = ok })))
+        Matches.moves refl (check-yes _ _ _ (ap not (sym same ∙ e)) ∙ ap (goes []) (done-is f ∙ is))
+        (record { kept = done-kept; fits = ok })))
       where
         same : doubledIn R (r .count) (r .n) ≡ among (begunIn R (attributeSlot + r .count) (r .n)) (attsOf R (r .count))
         same = doubled-is R (r .count) (r .n) (kept .long) few most (tag .short)
@@ -285,21 +286,21 @@ module _ (r : Reader) (R : List ℕ) (b : ℕ) (kept : Kept R (r .place)) where
         let g = base-is (r .place) (omega arith) in
         both-ticks _ _ (name-mark b)
         (λ h.
-          longer-right (attributeSlot + r .count) mode.Att (State.att (placeOf R (r .place)) (nameIn R (r .place)) (attsOf R (r .count))) (omega arith) low most
-          (λ j.
-            ap₂ (λ P n. State.att P n (attsOf R (r .count)) (begunIn (set R i b) (attributeSlot + r .count) (r .n + 1)))
-            (sym (place-kept R i b (r .place) (omega arith) (omega arith))) (sym (name-kept R i b (r .place) (Out.over (omega arith))))
-            ∙ ap (λ ms. State.att (placeOf (set R i b) (r .place)) (nameIn (set R i b) (r .place)) ms (begunIn (set R i b) (attributeSlot + r .count) (r .n + 1)))
-            (sym (atts-kept R i b (r .count) (omega arith) (omega arith))))
-          (λ j.
-            record {
-              kept = kept-set R i b (omega arith) (omega arith) kept;
-              fits = Fits.att (in-tag-kept R i b (omega arith) tag) few (omega arith) (omega arith);
-            }))
+        longer-right (attributeSlot + r .count) mode.Att (State.att (placeOf R (r .place)) (nameIn R (r .place)) (attsOf R (r .count))) (omega arith) low most
+        (λ j.
+        ap₂ (λ P n. State.att P n (attsOf R (r .count)) (begunIn (set R i b) (attributeSlot + r .count) (r .n + 1)))
+        (sym (place-kept R i b (r .place) (omega arith) (omega arith))) (sym (name-kept R i b (r .place) (Out.over (omega arith))))
+        ∙ ap (λ ms. State.att (placeOf (set R i b) (r .place)) (nameIn (set R i b) (r .place)) ms (begunIn (set R i b) (attributeSlot + r .count) (r .n + 1)))
+        (sym (atts-kept R i b (r .count) (omega arith) (omega arith))))
+        (λ j.
+        record {
+          kept = kept-set R i b (omega arith) (omega arith) kept;
+          fits = Fits.att (in-tag-kept R i b (omega arith) tag) few (omega arith) (omega arith);
+        }))
         (λ h.
-          both-ticks _ _ (blank-mark b)
-          (λ j. named-right mode.Equals State.eqs refl (Fits.equals done-att))
-          (λ j.
-            both-ticks _ _ refl
-            (λ k. named-right mode.Value State.val refl (Fits.value done-att))
-            (λ k. both-ticks _ _ (beyond-mark b l) (λ z. Matches.stops (omega arith) refl) (λ z. Matches.stops (omega arith) refl))))
+        both-ticks _ _ (blank-mark b)
+        (λ j. named-right mode.Equals State.eqs refl (Fits.equals done-att))
+        (λ j.
+        both-ticks _ _ refl
+        (λ k. named-right mode.Value State.val refl (Fits.value done-att))
+        (λ k. both-ticks _ _ (beyond-mark b l) (λ z. Matches.stops (omega arith) refl) (λ z. Matches.stops (omega arith) refl))))

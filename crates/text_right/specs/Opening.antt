@@ -6,23 +6,21 @@
 --   told-right, query-right               after a part of the declaration; after its '?'
 --
 -- Assumes nothing.
-use Prim.Native.Nat.{ℕ, zero, suc, _+_, _-_, _≤_, _<_}
+use Prim.Native.Nat.{ℕ, _≤_, _<_}
 use native.Mathlib.Omega.{arith}
-use mathlib.Core.Path.{_≡_, refl, sym, ap, _∙_, subst}
+use mathlib.Core.Path.{_≡_, refl, sym, ap, subst}
 use mathlib.Core.Logic.{_⊎_, inl, inr}
-use mathlib.Core.Bool.{Bool, true, false}
-use mathlib.Core.Option.{Option, none, some}
+use mathlib.Core.Option.{none, some}
 use mathlib.Core.List.{List, [], _∷_}
 use lib.Dec.{eqb}
 use borrow.Author.Tests.{ne-eqb}
-use Rattle.choice.specs.When.{when, when-true, when-false}
+use Rattle.choice.specs.When.{when, when-false}
 use Rattle.xml.specs.Class.{inClass, word}
 use Rattle.xml.specs.Chars.{blank}
 use Rattle.xml.specs.Refused.{misplaced, instruction}
 use Rattle.xml.specs.Grammar.{b0}
-use Rattle.xml.specs.Machine.{Place, State, Outcome, refused, goes, thenByte, pick, step}
+use Rattle.xml.specs.Machine.{Place, State, refused, goes, thenByte, pick, step}
 use Rattle.xml.specs.Limited.{bounds}
-use Rattle.modes.specs.declared.Mode.{Mode}
 use Rattle.modes.specs.declared.Mode.the-variants as mode
 use Rattle.modes.specs.declared.Prolog.the-variants as prolog
 use Rattle.modes.specs.declared.Reader.{Reader}
@@ -30,7 +28,7 @@ use Rattle.modes.specs.Moves.{goTo, refuseWith, spellOn}
 use Rattle.prolog.specs.Around.{around, startTick, markTick, xmlTick, declaredTick, queryTick}
 use Rattle.prolog.specs.Told.{toldTick}
 use Rattle.text_right.specs.Marked.{marksTable, name-mark, blank-mark, beyond-mark}
-use Rattle.text_right.specs.Stands.{placeOf, partNo, saidNo, prologState, stateIn, evsIn}
+use Rattle.text_right.specs.Stands.{partNo, saidNo, prologState, stateIn, evsIn}
 use Rattle.text_right.specs.Sound.{Outer, Kept, PartAt, FitsIn, Fits}
 use Rattle.text_right.specs.Matched.{Matches, tuned, lift, turn, both, place-before, wordOn, word-step}
 
@@ -51,9 +49,9 @@ module _ (r : Reader) (R : List ℕ) (b : ℕ) (kept : Kept R (r .place)) (at : 
       both _ _ (blank-mark b)
       (λ e. Matches.moves refl (ap (λ P. goes [] (State.at P b0)) (sym (place-before R _ at))) (record { kept = kept; fits = Fits.around (Outer.before at) }))
       (λ e.
-        both _ _ refl
-        (λ f. Matches.moves refl refl (record { kept = kept; fits = Fits.first at }))
-        (λ f. Matches.stops (omega arith) refl))
+      both _ _ refl
+      (λ f. Matches.moves refl refl (record { kept = kept; fits = Fits.first at }))
+      (λ f. Matches.stops (omega arith) refl))
 
   pub fresh-right : Matches (step bounds State.fresh b) (around marksTable r b mode.First) R
   unfolding step pick
@@ -164,9 +162,9 @@ module _ (r : Reader) (R : List ℕ) (b : ℕ) (kept : Kept R (r .place)) (at : 
       both _ _ (blank-mark b)
       (λ e. Matches.moves refl (ap (λ o. goes [] (State.apiece o)) (sym none-said)) (record { kept = kept; fits = Fits.prolog′ at (FitsIn.piece (record { most = omega arith })) }))
       (λ e.
-        both _ _ (name-mark b)
-        (λ f. Matches.stops (omega arith) refl)
-        (λ f. both _ _ (beyond-mark b l) (λ g. Matches.stops (omega arith) refl) (λ g. Matches.stops (omega arith) refl)))
+      both _ _ (name-mark b)
+      (λ f. Matches.stops (omega arith) refl)
+      (λ f. both _ _ (beyond-mark b l) (λ g. Matches.stops (omega arith) refl) (λ g. Matches.stops (omega arith) refl)))
 
   pub told-right : PartAt (r .count) → Matches (step bounds (State.told (partNo (r .count))) b) (toldTick marksTable r b) R
   unfolding step pick toldTick stateIn prologState evsIn
@@ -174,12 +172,12 @@ module _ (r : Reader) (R : List ℕ) (b : ℕ) (kept : Kept R (r .place)) (at : 
       let l = h .high in
       both _ _ (blank-mark b)
       (λ e.
-        Matches.moves refl (ap (λ o. goes [] (State.apiece o)) (sym (some-said (r .count) (h .low))))
-        (record { kept = kept; fits = Fits.prolog′ at (FitsIn.piece (record { most = l })) }))
+      Matches.moves refl (ap (λ o. goes [] (State.apiece o)) (sym (some-said (r .count) (h .low))))
+      (record { kept = kept; fits = Fits.prolog′ at (FitsIn.piece (record { most = l })) }))
       (λ e.
-        both _ _ refl
-        (λ f. Matches.moves refl refl (record { kept = kept; fits = Fits.prolog′ at FitsIn.query }))
-        (λ f. Matches.stops (omega arith) refl))
+      both _ _ refl
+      (λ f. Matches.moves refl refl (record { kept = kept; fits = Fits.prolog′ at FitsIn.query }))
+      (λ f. Matches.stops (omega arith) refl))
 
   pub query-right : Matches (step bounds (thenByte 62 [] (State.at Place.before b0)) b) (queryTick r b) R
   unfolding step pick queryTick stateIn evsIn wordOn

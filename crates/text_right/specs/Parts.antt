@@ -6,7 +6,7 @@
 --   equals-right, value-right      after it, and after its '='
 --
 -- Assumes nothing. NOT here: a part's value (Quoted).
-use Prim.Native.Nat.{ℕ, suc, _+_, _*_, _-_, _≤_, _<_}
+use Prim.Native.Nat.{ℕ, suc, _+_, _≤_, _<_}
 use native.Mathlib.Omega.{arith}
 use native.Mathlib.Numerals.{add-one}
 use mathlib.Core.Path.{_≡_, refl, sym, ap, ap₂, _∙_, subst}
@@ -16,17 +16,15 @@ use mathlib.Core.List.{List, [], _∷_}
 use lib.Dec.{T, eqb, leb, ltb, leb→le, le→leb, eqb→eq}
 use lib.ListN.{length, getD, drop}
 use lib.Seq.{drop-cons}
-use borrow.Author.Tests.{eqb-true, eqb-false, ne-eqb, lt-leb, le-leb, not-true, not-false}
+use borrow.Author.Tests.{eqb-true, eqb-false, lt-leb, le-leb, not-true, not-false}
 use Rattle.choice.specs.When.{when, when-true, when-false}
 use Rattle.choice.specs.Tests.{other}
 use Rattle.xml.specs.Class.{derive, word, words}
 use Rattle.xml.specs.Class.Laws.{and-l, and-r}
 use Rattle.xml.specs.Refused.{misplaced}
 use Rattle.xml.specs.Grammar.{Part, version, encoding, standalone, partName, partValues, mayFollow}
-use Rattle.xml.specs.Machine.{Place, State, Outcome, refused, goes, check, partArm, toldEnd, apieceEnd, partRefusal, settle, pick, step}
+use Rattle.xml.specs.Machine.{State, Outcome, refused, goes, apieceEnd, partRefusal, settle, pick, step}
 use Rattle.xml.specs.Limited.{bounds}
-use Rattle.modes.specs.declared.Mode.the-variants as mode
-use Rattle.modes.specs.declared.Prolog.the-variants as prolog
 use Rattle.modes.specs.declared.Reader.{Reader}
 use Rattle.prolog.specs.Told.{partByte, pieceTick, partTick, partEqualsTick, partValueTick}
 use Rattle.text_right.specs.Marked.{marksTable, blank-mark, same, same-is}
@@ -161,7 +159,7 @@ module _ (row n : ℕ) (ok : NameAt row n) where
         last = same-is _ _ (and-l e _ t₃);
         part = record { low = low; high = omega arith };
         next =
-          λ q.
+            λ q.
             record { holds = or-other (ltb (n + 1) (length (partName (partNo row)))) (nameOk row (n + 1)) (subst T (sym q) tt) (and-r (leb 1 row) _ t₄) };
       }
 
@@ -201,50 +199,50 @@ module _ (r : Reader) (R : List ℕ) (b : ℕ) (kept : Kept R (r .place)) (at : 
       both _ _ (blank-mark b)
       (λ e. Matches.moves refl refl (record { kept = kept; fits = Fits.prolog′ at (FitsIn.piece h) }))
       (λ e.
-        by-test (eqb (r .count) 0)
-        (λ z.
-          let z′ : r .count ≡ 0 = eqb-true _ 0 z in
-          let none = ap saidNo z′ ∙ none-said in
-          by-test (eqb b 118)
-          (λ f.
-            Matches.moves refl
-            (when-false _ _ _ (other b 118 63 (eqb-true b 118 f) refl)
-            ∙ when-true _ _ _ f
-            ∙ check-yes _ _ _ (follow-first (r .count) m ∙ z)
-            ∙ ap (goes []) (first-part o))
-            (record { kept = kept; fits = Fits.prolog′ at (FitsIn.part h first-name) }))
-          (λ f.
-            Matches.stops (omega arith)
-            (same-all _ _ _ _ (ap apieceEnd none)
-            (when-false _ _ _ f
-            ∙ same-all _ _ _ _ (check-no _ _ _ (follow-second (r .count) m ∙ other (r .count) 0 1 z′ refl))
-            (same-all _ _ _ _ (check-no _ _ _ (follow-third (r .count) m ∙ ap (λ x. leb 1 x && leb x 2) z′)) refl)))))
-        (λ z.
-          let low : 1 ≤ r .count = low-of (eqb-false _ 0 z) in
-          both _ _ refl
-          (λ f. Matches.moves refl (ap apieceEnd (some-said (r .count) low)) (record { kept = kept; fits = Fits.prolog′ at FitsIn.query }))
-          (λ f.
-            by-test (eqb b 101)
-            (λ g.
-              lift (when-false _ _ _ (other b 101 118 (eqb-true b 101 g) refl) ∙ when-true _ _ _ g)
-              (by-test (eqb (r .count) 1)
-              (λ i.
-                Matches.moves refl (check-yes _ _ _ (follow-second (r .count) m ∙ i) ∙ ap (goes []) (second-part o))
-                (record { kept = kept; fits = Fits.prolog′ at (FitsIn.part h second-name) }))
-              (λ i. Matches.stops (omega arith) (check-no _ _ _ (follow-second (r .count) m ∙ i)))))
-            (λ g.
-              by-test (eqb b 115)
-              (λ i.
-                lift (when-false _ _ _ (other b 115 118 (eqb-true b 115 i) refl) ∙ when-false _ _ _ g ∙ when-true _ _ _ i)
-                (by-test (leb (r .count) 2)
-                (λ j.
-                  Matches.moves refl
-                  (check-yes _ _ _ (follow-third (r .count) m ∙ ap₂ (λ x y. x && y) (le-leb 1 (r .count) low) j) ∙ ap (goes []) (third-part o))
-                  (record { kept = kept; fits = Fits.prolog′ at (FitsIn.part h third-name) }))
-                (λ j. Matches.stops (omega arith) (check-no _ _ _ (follow-third (r .count) m ∙ ap₂ (λ x y. x && y) (le-leb 1 (r .count) low) j)))))
-              (λ i.
-                Matches.stops (omega arith)
-                (same-all _ _ _ _ (check-no _ _ _ (follow-first (r .count) m ∙ z)) (when-false _ _ _ g ∙ when-false _ _ _ i)))))))
+      by-test (eqb (r .count) 0)
+      (λ z.
+      let z′ : r .count ≡ 0 = eqb-true _ 0 z in
+      let none = ap saidNo z′ ∙ none-said in
+      by-test (eqb b 118)
+      (λ f.
+      Matches.moves refl
+      (when-false _ _ _ (other b 118 63 (eqb-true b 118 f) refl)
+      ∙ when-true _ _ _ f
+      ∙ check-yes _ _ _ (follow-first (r .count) m ∙ z)
+      ∙ ap (goes []) (first-part o))
+      (record { kept = kept; fits = Fits.prolog′ at (FitsIn.part h first-name) }))
+      (λ f.
+      Matches.stops (omega arith)
+      (same-all _ _ _ _ (ap apieceEnd none)
+      (when-false _ _ _ f
+      ∙ same-all _ _ _ _ (check-no _ _ _ (follow-second (r .count) m ∙ other (r .count) 0 1 z′ refl))
+      (same-all _ _ _ _ (check-no _ _ _ (follow-third (r .count) m ∙ ap (λ x. leb 1 x && leb x 2) z′)) refl)))))
+      (λ z.
+      let low : 1 ≤ r .count = low-of (eqb-false _ 0 z) in
+      both _ _ refl
+      (λ f. Matches.moves refl (ap apieceEnd (some-said (r .count) low)) (record { kept = kept; fits = Fits.prolog′ at FitsIn.query }))
+      (λ f.
+      by-test (eqb b 101)
+      (λ g.
+      lift (when-false _ _ _ (other b 101 118 (eqb-true b 101 g) refl) ∙ when-true _ _ _ g)
+      (by-test (eqb (r .count) 1)
+      (λ i.
+      Matches.moves refl (check-yes _ _ _ (follow-second (r .count) m ∙ i) ∙ ap (goes []) (second-part o))
+      (record { kept = kept; fits = Fits.prolog′ at (FitsIn.part h second-name) }))
+      (λ i. Matches.stops (omega arith) (check-no _ _ _ (follow-second (r .count) m ∙ i)))))
+      (λ g.
+      by-test (eqb b 115)
+      (λ i.
+      lift (when-false _ _ _ (other b 115 118 (eqb-true b 115 i) refl) ∙ when-false _ _ _ g ∙ when-true _ _ _ i)
+      (by-test (leb (r .count) 2)
+      (λ j.
+      Matches.moves refl
+      (check-yes _ _ _ (follow-third (r .count) m ∙ ap₂ (λ x y. x && y) (le-leb 1 (r .count) low) j) ∙ ap (goes []) (third-part o))
+      (record { kept = kept; fits = Fits.prolog′ at (FitsIn.part h third-name) }))
+      (λ j. Matches.stops (omega arith) (check-no _ _ _ (follow-third (r .count) m ∙ ap₂ (λ x y. x && y) (le-leb 1 (r .count) low) j)))))
+      (λ i.
+      Matches.stops (omega arith)
+      (same-all _ _ _ _ (check-no _ _ _ (follow-first (r .count) m ∙ z)) (when-false _ _ _ g ∙ when-false _ _ _ i)))))))
     where
       low-of : (r .count ≡ 0 → ⊥) → 1 ≤ r .count
       low-of f = omega arith
@@ -257,9 +255,9 @@ module _ (r : Reader) (R : List ℕ) (b : ℕ) (kept : Kept R (r .place)) (at : 
       both _ _ (blank-mark b)
       (λ e. Matches.moves refl refl (record { kept = kept; fits = Fits.prolog′ at (FitsIn.partEquals h k) }))
       (λ e.
-        both _ _ refl
-        (λ f. Matches.moves refl refl (record { kept = kept; fits = Fits.prolog′ at (FitsIn.partValue h k) }))
-        (λ f. Matches.stops (omega arith) refl))
+      both _ _ refl
+      (λ f. Matches.moves refl refl (record { kept = kept; fits = Fits.prolog′ at (FitsIn.partValue h k) }))
+      (λ f. Matches.stops (omega arith) refl))
 
   pub part-right :
       SaidAt (r .count) → NameAt (r .row) (r .n)
@@ -281,15 +279,15 @@ module _ (r : Reader) (R : List ℕ) (b : ℕ) (kept : Kept R (r .place)) (at : 
       ∙ ap (λ c. when (eqb b c) (wordOn (drop (suc n) w) misplaced [] k) (refused misplaced)) (t .byte))
       (both _ _ refl
       (λ f.
-        let on = ap (λ m. wordOn (drop m w) misplaced [] k) (sym (add-one n)) ∙ word-at w (n + 1) misplaced k (ltb (n + 1) (length w)) refl in
-        by-test (eqb (partByte (r .row) (r .n + 1)) 0)
-        (λ z.
-          Matches.moves refl (on ∙ ap (goes []) (when-false _ _ _ (not-true _ (sym (t .last) ∙ z))))
-          (record { kept = kept; fits = Fits.prolog′ at (FitsIn.partEquals h (t .part)) }))
-        (λ z.
-          let more = not-false _ (sym (t .last) ∙ z) in
-          Matches.moves refl (on ∙ ap (goes []) (when-true _ _ _ more))
-          (record { kept = kept; fits = Fits.prolog′ at (FitsIn.part h (t .next more)) })))
+      let on = ap (λ m. wordOn (drop m w) misplaced [] k) (sym (add-one n)) ∙ word-at w (n + 1) misplaced k (ltb (n + 1) (length w)) refl in
+      by-test (eqb (partByte (r .row) (r .n + 1)) 0)
+      (λ z.
+      Matches.moves refl (on ∙ ap (goes []) (when-false _ _ _ (not-true _ (sym (t .last) ∙ z))))
+      (record { kept = kept; fits = Fits.prolog′ at (FitsIn.partEquals h (t .part)) }))
+      (λ z.
+      let more = not-false _ (sym (t .last) ∙ z) in
+      Matches.moves refl (on ∙ ap (goes []) (when-true _ _ _ more))
+      (record { kept = kept; fits = Fits.prolog′ at (FitsIn.part h (t .next more)) })))
       (λ f. Matches.stops (omega arith) refl))))
 
   pub value-right :
@@ -301,13 +299,13 @@ module _ (r : Reader) (R : List ℕ) (b : ℕ) (kept : Kept R (r .place)) (at : 
       both _ _ (blank-mark b)
       (λ e. Matches.moves refl refl (record { kept = kept; fits = Fits.prolog′ at (FitsIn.partValue h k) }))
       (λ e.
-        both _ _ refl
-        (λ f.
-          Matches.moves refl (ap (λ x. goes [] (State.rows x (partRefusal (partNo (r .row))) [] (State.told (partNo (r .row))))) (v .double))
-          (record { kept = kept; fits = Fits.prolog′ at (FitsIn.partDouble (v .begun)) }))
-        (λ f.
-          both _ _ refl
-          (λ g.
-            Matches.moves refl (ap (λ x. goes [] (State.rows x (partRefusal (partNo (r .row))) [] (State.told (partNo (r .row))))) (v .single))
-            (record { kept = kept; fits = Fits.prolog′ at (FitsIn.partSingle (v .begun)) }))
-          (λ g. Matches.stops (omega arith) refl)))
+      both _ _ refl
+      (λ f.
+      Matches.moves refl (ap (λ x. goes [] (State.rows x (partRefusal (partNo (r .row))) [] (State.told (partNo (r .row))))) (v .double))
+      (record { kept = kept; fits = Fits.prolog′ at (FitsIn.partDouble (v .begun)) }))
+      (λ f.
+      both _ _ refl
+      (λ g.
+      Matches.moves refl (ap (λ x. goes [] (State.rows x (partRefusal (partNo (r .row))) [] (State.told (partNo (r .row))))) (v .single))
+      (record { kept = kept; fits = Fits.prolog′ at (FitsIn.partSingle (v .begun)) }))
+      (λ g. Matches.stops (omega arith) refl)))

@@ -6,12 +6,12 @@
 --   quiet-run, quiet-sound   so does the machine;  what holds of a reader and its room that calls lead to goes on to hold
 --
 -- Assumes nothing.
-use Prim.Native.Nat.{ℕ, zero, suc, _+_, _≤_, _<_}
+use Prim.Native.Nat.{ℕ, suc, _<_}
 use native.Mathlib.Omega.{arith}
-use mathlib.Core.Path.{_≡_, refl, sym, ap, _∙_, subst}
+use mathlib.Core.Path.{_≡_, refl, ap, _∙_, subst}
 use mathlib.Core.List.{List, [], _∷_, _++_}
 use lib.ListN.{length, getD}
-use Rattle.xml.specs.Machine.{State, Outcome, goes, step, Result, stopped, stands, given, next, run}
+use Rattle.xml.specs.Machine.{goes, step, Result, stopped, stands, given, next, run}
 use Rattle.xml.specs.Limited.{bounds}
 use Rattle.modes.specs.declared.Mode.{Mode}
 use Rattle.modes.specs.declared.Prolog.{Prolog}

@@ -5,11 +5,11 @@
 --   quoted-right          in a value, in the quotes q;  double-right, single-right: in each mode
 --
 -- Assumes nothing.
-use Prim.Native.Nat.{ℕ, _+_, _≤_, _<_}
+use Prim.Native.Nat.{ℕ, _+_, _<_}
 use native.Mathlib.Omega.{arith}
 use mathlib.Core.Path.{_≡_, refl, sym, ap, ap₂, _∙_, subst}
 use mathlib.Core.Bool.{Bool, true, false, not, _&&_, _||_}
-use mathlib.Core.List.{List, [], _∷_}
+use mathlib.Core.List.{List, []}
 use lib.Dec.{T, eqb, leb, ltb, leb→le, eqb→eq}
 use borrow.Author.Tests.{eqb-true, le-ltb}
 use Rattle.choice.specs.When.{when, when-true, when-false, when-either}
@@ -26,8 +26,8 @@ use Rattle.modes.specs.declared.Reader.{Reader}
 use Rattle.modes.specs.Moves.{spellOn}
 use Rattle.prolog.specs.Told.{valueByte, valueRow, partOf, small, valueRefusal, quotedIn, quotedTick}
 use Rattle.text_right.specs.Stands.{partNo, valueLeft, prologState, stateIn, evsIn}
-use Rattle.text_right.specs.Sound.{Kept, PartAt, valueOk, ValueAt, FitsIn, Fits}
-use Rattle.text_right.specs.Matched.{Matches, lift, turn, by-test}
+use Rattle.text_right.specs.Sound.{Kept, valueOk, ValueAt, FitsIn, Fits}
+use Rattle.text_right.specs.Matched.{Matches, turn, by-test}
 use Rattle.text_right.specs.Forms.{sameClass, sameRow, sameRows, same-rows, upTo, below, waits, settle-waits}
 use Rattle.text_right.specs.Values.{moded}
 use Rattle.text_right.specs.Entities.{spent, settle-spent, chosen-true, chosen-false}
@@ -116,45 +116,45 @@ module _ (r : Reader) (R : List ℕ) (b : ℕ) (kept : Kept R (r .place)) (at : 
       let t₃ = and-r (eqb (valueRefusal y) x) (leftTest q n b y d) t₂ in
       let range = and-l (leb 1 (partOf y) && leb (partOf y) 3) (eqb (valueRefusal y) x && leftTest q n b y d) t₁ in
       let same : partNo (r .row) ≡ partNo (valueRow (r .row) (r .n) b) =
-        sym (part-of row) ∙ ap partNo (sym (eqb→eq _ _ (and-l (eqb (partOf y) (partOf row)) _ t))) ∙ part-of y in
+      sym (part-of row) ∙ ap partNo (sym (eqb→eq _ _ (and-l (eqb (partOf y) (partOf row)) _ t))) ∙ part-of y in
       let refusal : partRefusal (partNo (r .row)) ≡ valueRefusal (valueRow (r .row) (r .n) b) =
-        sym (eqb→eq (valueRefusal y) x (and-l (eqb (valueRefusal y) x) (leftTest q n b y d) t₂)) in
+      sym (eqb→eq (valueRefusal y) x (and-l (eqb (valueRefusal y) x) (leftTest q n b y d) t₂)) in
       let stop : T (sameRows (derive b (valueLeft (r .row) (r .n) q)) []) → settle (derive b (valueLeft (r .row) (r .n) q)) (partRefusal (partNo (r .row))) [] (State.told (partNo (r .row))) ≡ refused (valueRefusal (valueRow (r .row) (r .n) b)) =
-        λ h. ap (λ z. settle z x [] k) (same-rows d [] h) ∙ ap refused refusal in
+      λ h. ap (λ z. settle z x [] k) (same-rows d [] h) ∙ ap refused refusal in
       let last = when (eqb b q) (spent d) (sameRows d []) in
       let next = when (eqb (small y b) (valueByte y n)) (sameRows d more && (waits d && valueOk y (n + 1))) (sameRows d []) in
       turn (when-false _ _ _ (le-ltb 5 (r .n) (omega arith)))
       (by-test (eqb (valueByte y n) 0)
       (λ e.
-        let u = chosen-true (eqb (valueByte y n) 0) last next e t₃ in
-        by-test (eqb b q)
-        (λ f.
-          Matches.moves refl
-          (settle-spent d x [] k (chosen-true (eqb b q) (spent d) (sameRows d []) f u) ∙ ap (λ z. goes [] (State.told z)) (same ∙ sym (part-of y)))
-          (record {
-            kept = kept;
-            fits =
-              Fits.prolog′ at
-              (FitsIn.told
-              (record {
-                low = leb→le _ _ (and-l (leb 1 (partOf y)) (leb (partOf y) 3) range);
-                high = leb→le _ _ (and-r (leb 1 (partOf y)) (leb (partOf y) 3) range);
-              }));
-          }))
-        (λ f. Matches.stops (refusal-some y) (stop (chosen-false (eqb b q) (spent d) (sameRows d []) f u))))
+      let u = chosen-true (eqb (valueByte y n) 0) last next e t₃ in
+      by-test (eqb b q)
+      (λ f.
+      Matches.moves refl
+      (settle-spent d x [] k (chosen-true (eqb b q) (spent d) (sameRows d []) f u) ∙ ap (λ z. goes [] (State.told z)) (same ∙ sym (part-of y)))
+      (record {
+        kept = kept;
+        fits =
+            Fits.prolog′ at
+            (FitsIn.told
+            (record {
+              low = leb→le _ _ (and-l (leb 1 (partOf y)) (leb (partOf y) 3) range);
+              high = leb→le _ _ (and-r (leb 1 (partOf y)) (leb (partOf y) 3) range);
+            }));
+      }))
+      (λ f. Matches.stops (refusal-some y) (stop (chosen-false (eqb b q) (spent d) (sameRows d []) f u))))
       (λ e.
-        let u = chosen-false (eqb (valueByte y n) 0) last next e t₃ in
-        let on = sameRows d more && (waits d && valueOk y (n + 1)) in
-        by-test (eqb (small y b) (valueByte y n))
-        (λ f.
-          let v = chosen-true (eqb (small y b) (valueByte y n)) on (sameRows d []) f u in
-          let w = and-r (sameRows d more) (waits d && valueOk y (n + 1)) v in
-          Matches.moves refl
-          (settle-waits d x [] k (and-l (waits d) (valueOk y (n + 1)) w)
-          ∙ ap₂ (λ z p. goes [] (State.rows z (partRefusal p) [] (State.told p))) (same-rows d more (and-l (sameRows d more) (waits d && valueOk y (n + 1)) v)) same
-          ∙ ap (goes []) (is y (n + 1)))
-          (record { kept = kept; fits = Fits.prolog′ at (fit y (n + 1) (record { holds = and-r (waits d) (valueOk y (n + 1)) w })) }))
-        (λ f. Matches.stops (refusal-some y) (stop (chosen-false (eqb (small y b) (valueByte y n)) on (sameRows d []) f u)))))
+      let u = chosen-false (eqb (valueByte y n) 0) last next e t₃ in
+      let on = sameRows d more && (waits d && valueOk y (n + 1)) in
+      by-test (eqb (small y b) (valueByte y n))
+      (λ f.
+      let v = chosen-true (eqb (small y b) (valueByte y n)) on (sameRows d []) f u in
+      let w = and-r (sameRows d more) (waits d && valueOk y (n + 1)) v in
+      Matches.moves refl
+      (settle-waits d x [] k (and-l (waits d) (valueOk y (n + 1)) w)
+      ∙ ap₂ (λ z p. goes [] (State.rows z (partRefusal p) [] (State.told p))) (same-rows d more (and-l (sameRows d more) (waits d && valueOk y (n + 1)) v)) same
+      ∙ ap (goes []) (is y (n + 1)))
+      (record { kept = kept; fits = Fits.prolog′ at (fit y (n + 1) (record { holds = and-r (waits d) (valueOk y (n + 1)) w })) }))
+      (λ f. Matches.stops (refusal-some y) (stop (chosen-false (eqb (small y b) (valueByte y n)) on (sameRows d []) f u)))))
 
   pub double-right :
       b < 256 → r .mode ≡ mode.Prolog prolog.PartDouble → ValueAt (r .row) (r .n)

@@ -16,11 +16,11 @@ use mathlib.Core.List.{List, [], _∷_}
 use lib.Dec.{eqb}
 use lib.ListN.{getD}
 use borrow.Author.Tests.{eqb-true, eqb-false}
-use Rattle.choice.specs.When.{when, when-true, when-false}
+use Rattle.choice.specs.When.{when, when-false}
 use Rattle.xml.specs.Class.{inClass, derive}
 use Rattle.xml.specs.Chars.{utf8, unquoted, quote}
 use Rattle.xml.specs.Refused.{notChar}
-use Rattle.xml.specs.Grammar.{Ev, opens, closes, b0}
+use Rattle.xml.specs.Grammar.{opens, closes, b0}
 use Rattle.xml.specs.Machine.{Place, State, goes, opened, emptied, thenByte, closeArms, settle, pick, step}
 use Rattle.xml.specs.Limited.{bounds}
 use Rattle.chars.specs.Marks.{marked}
@@ -32,7 +32,7 @@ use Rattle.tags.specs.Tag.{tagEnd, taggedTick, equalsTick, valueTick, quotedTic
 use Rattle.tags.specs.Found.{not-deep, not-many}
 use Rattle.text_right.specs.Marked.{marksTable, double-mark, single-mark, blank-mark}
 use Rattle.text_right.specs.Stands.{names, attsOf, placeOf, backState, amperState, stateIn, evsIn}
-use Rattle.text_right.specs.Sound.{Inner, Kept, InTag, InAtt, Back, entity-none, Fits}
+use Rattle.text_right.specs.Sound.{Kept, InTag, InAtt, Back, entity-none, Fits}
 use Rattle.text_right.specs.Matched.{Matches, lift, turn, both, by-test, place-before, place-inner}
 use Rattle.text_right.specs.Frames.{kept-more}
 use Rattle.text_right.specs.Content.{back-is, wide-right}
@@ -64,6 +64,7 @@ in-more {R} {p} {k} h =
   where
     less : (j : ℕ) → j < k + 1 → (j ≡ k → ⊥) → j < k
     less j m d = omega arith
+
     go : (j : ℕ) → j < k + 1 → (x : Bool) → eqb j k ≡ x → getD R (baseOf (attributeSlot + j) + 64) 0 ≤ 64
     go j m true e = subst (λ z. getD R (baseOf (attributeSlot + z) + 64) 0 ≤ 64) (sym (eqb-true j k e)) (h .shorter)
     go j m false e = h .tag .short j (less j m (eqb-false j k e))
@@ -91,15 +92,15 @@ module _ (r : Reader) (R : List ℕ) (b : ℕ) (kept : Kept R (r .place)) where
       by-test (eqb b 47)
       (λ e. Matches.moves refl (ap (pick (closeArms bounds P n)) (eqb-true b 47 e) ∙ close-slash P n) (record { kept = kept; fits = Fits.slash l h }))
       (λ e.
-        by-test (eqb b 62)
-        (λ f.
-          turn (when-false _ _ _ (not-deep (r .place) l))
-          (Matches.moves refl
-          (ap (pick (closeArms bounds P n)) (eqb-true b 62 f)
-          ∙ close-open P n
-          ∙ ap₂ (λ z Q. goes (opens (nameIn R z) ∷ []) (State.at Q b0)) (let z : r .place ≡ r .place + 1 - 1 = omega arith in z) (opened-is R (r .place) l))
-          (record { kept = kept-more R (r .place) l kept h; fits = Fits.back (Back.data′ (record { low = omega arith; high = omega arith })) })))
-        (λ f. Matches.stops (omega arith) (when-false _ _ _ f ∙ when-false _ _ _ e)))
+      by-test (eqb b 62)
+      (λ f.
+      turn (when-false _ _ _ (not-deep (r .place) l))
+      (Matches.moves refl
+      (ap (pick (closeArms bounds P n)) (eqb-true b 62 f)
+      ∙ close-open P n
+      ∙ ap₂ (λ z Q. goes (opens (nameIn R z) ∷ []) (State.at Q b0)) (let z : r .place ≡ r .place + 1 - 1 = omega arith in z) (opened-is R (r .place) l))
+      (record { kept = kept-more R (r .place) l kept h; fits = Fits.back (Back.data′ (record { low = omega arith; high = omega arith })) })))
+      (λ f. Matches.stops (omega arith) (when-false _ _ _ f ∙ when-false _ _ _ e)))
 
   pub tagged-right :
       InTag R (r .place) (r .count)
@@ -118,9 +119,9 @@ module _ (r : Reader) (R : List ℕ) (b : ℕ) (kept : Kept R (r .place)) where
       both _ _ (blank-mark b)
       (λ e. Matches.moves refl refl (record { kept = kept; fits = Fits.equals h }))
       (λ e.
-        both _ _ refl
-        (λ f. Matches.moves refl refl (record { kept = kept; fits = Fits.value h }))
-        (λ f. Matches.stops (omega arith) refl))
+      both _ _ refl
+      (λ f. Matches.moves refl refl (record { kept = kept; fits = Fits.value h }))
+      (λ f. Matches.stops (omega arith) refl))
 
   pub value-right :
       InAtt R (r .place) (r .count)
@@ -130,12 +131,12 @@ module _ (r : Reader) (R : List ℕ) (b : ℕ) (kept : Kept R (r .place)) where
       both _ _ (blank-mark b)
       (λ e. Matches.moves refl refl (record { kept = kept; fits = Fits.value h }))
       (λ e.
-        both _ _ refl
-        (λ f. Matches.moves refl refl (record { kept = kept; fits = Fits.back (Back.double h) }))
-        (λ f.
-          both _ _ refl
-          (λ g. Matches.moves refl refl (record { kept = kept; fits = Fits.back (Back.single h) }))
-          (λ g. Matches.stops (omega arith) refl)))
+      both _ _ refl
+      (λ f. Matches.moves refl refl (record { kept = kept; fits = Fits.back (Back.double h) }))
+      (λ f.
+      both _ _ refl
+      (λ g. Matches.moves refl refl (record { kept = kept; fits = Fits.back (Back.single h) }))
+      (λ g. Matches.stops (omega arith) refl)))
 
   att-ended :
       (m : Mode) → InAtt R (r .place) (r .count)
@@ -164,17 +165,17 @@ module _ (r : Reader) (R : List ℕ) (b : ℕ) (kept : Kept R (r .place)) where
       both _ _ is
       (λ e. Matches.moves refl (ap (goes []) (s ∙ sym (back-is R _ _ _ _ _ k))) (record { kept = kept; fits = Fits.back k }))
       (λ e.
-        both _ _ refl
-        (λ f. att-ended m h)
-        (λ f.
-          both _ _ refl
-          (λ g.
-            Matches.moves refl (ap (λ z. goes [] (State.amper z)) s ∙ ap (goes []) (amper-first R m _ _ 0))
-            (record { kept = kept; fits = Fits.amper k entity-none }))
-          (λ g.
-            both _ _ refl
-            (λ i. Matches.stops (omega arith) refl)
-            (λ i. lift (ap (settle (derive b utf8) notChar []) s) (wide-right (moded r m) R b kept l k)))))
+      both _ _ refl
+      (λ f. att-ended m h)
+      (λ f.
+      both _ _ refl
+      (λ g.
+      Matches.moves refl (ap (λ z. goes [] (State.amper z)) s ∙ ap (goes []) (amper-first R m _ _ 0))
+      (record { kept = kept; fits = Fits.amper k entity-none }))
+      (λ g.
+      both _ _ refl
+      (λ i. Matches.stops (omega arith) refl)
+      (λ i. lift (ap (settle (derive b utf8) notChar []) s) (wide-right (moded r m) R b kept l k)))))
 
   pub double-right :
       b < 256

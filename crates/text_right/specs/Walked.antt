@@ -5,29 +5,29 @@
 --   walk-sound           the reader and its room are sound then
 --
 -- Assumes nothing.
-use Prim.Native.Nat.{ℕ, zero, suc, _+_, _-_, _≤_, _<_}
+use Prim.Native.Nat.{ℕ, _+_, _-_, _<_}
 use native.Mathlib.Omega.{arith}
-use mathlib.Core.Path.{_≡_, refl, sym, ap, _∙_, subst}
+use mathlib.Core.Path.{_≡_, sym, ap, _∙_, subst}
 use mathlib.Core.Bool.{true, false}
-use mathlib.Core.List.{List, [], _∷_, _++_}
-use lib.Dec.{eqb, leb}
+use mathlib.Core.List.{List, _++_}
+use lib.Dec.{eqb}
 use lib.ListN.{length, getD, drop, length-append, List·getD-append}
 use lib.Seq.{drop-append-seam}
 use borrow.Author.Tests.{ne-eqb, eq-eqb, lt-leb}
-use Rattle.choice.specs.When.{when, when-true, when-false}
+use Rattle.choice.specs.When.{when-true, when-false}
 use Rattle.xml.specs.Class.{inClass, disjoint, disjointRanges, outOf}
 use Rattle.xml.specs.Chars.{blank, nameStart}
 use Rattle.xml.specs.Machine.{run}
 use Rattle.xml.specs.Limited.{bounds}
 use Rattle.chars.specs.Marks.{marked}
 use Rattle.slots.specs.Slots.{attributeSlot, baseOf, lengthIn}
-use Rattle.slots.specs.Copied.{Copied, agreed}
+use Rattle.slots.specs.Copied.{agreed}
 use Rattle.modes.specs.declared.Mode.{Mode}
 use Rattle.modes.specs.declared.Mode.the-variants as mode
 use Rattle.modes.specs.declared.Reader.{Reader}
 use Rattle.prolog.specs.Around.{around}
 use Rattle.content.specs.Text.{dataTick, noteTick}
-use Rattle.tags.specs.Markup.{Ticked, kept}
+use Rattle.tags.specs.Markup.{kept}
 use Rattle.tags.specs.Tag.{nameByte, tagTick, gapTick, attTick, equalsTick, valueTick, quotedTick}
 use Rattle.tags.specs.Found.{not-long}
 use Rattle.ends.specs.Ends.{endedTick, endTick}
@@ -52,7 +52,7 @@ front : (u v : List ℕ) → Bytes (u ++ v) → Bytes u
 front u v f =
     record {
       each =
-        λ i h.
+          λ i h.
           subst (λ x. x < 256) (List·getD-append u v 0 i h) (f .each i (subst (λ n. i < n) (sym (length-append u v)) (let k : i < length u = h in omega arith)));
     }
 
@@ -76,8 +76,8 @@ module _ (r : Reader) (R t : List ℕ) (at : ℕ) where
       subst (λ s. Walks (moded r mode.End) R t at (beside (agreed R s (r .n) at t) R)) (sym (when-false (eqb (r .place) 0) 0 (r .place - 1) ne))
       (agrees-walk (moded r mode.End) R (r .place - 1)
       (λ g z n b h e.
-        ap (λ x. kept x R)
-        (when-false _ _ _ ne ∙ when-false _ _ _ (lt-leb (lengthIn R (r .place - 1)) n h) ∙ when-true _ _ _ (eq-eqb b (getD R (baseOf (r .place - 1) + n) 0) e)))
+      ap (λ x. kept x R)
+      (when-false _ _ _ ne ∙ when-false _ _ _ (lt-leb (lengthIn R (r .place - 1)) n h) ∙ when-true _ _ _ (eq-eqb b (getD R (baseOf (r .place - 1) + n) 0) e)))
       t (r .gives) (r .refusal) (r .n) at)
 
   in-walks : {m : Mode} → Fits R r m → In m
