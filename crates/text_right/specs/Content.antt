@@ -111,7 +111,8 @@ module _ (r : Reader) (R : List ℕ) (b : ℕ) (kept : Kept R (r .place)) where
   at-outer :
       Outer (r .place)
       → step bounds (State.at (placeOf R (r .place)) b0) b
-      ≡ when (inClass blank b) (goes [] (State.at (placeOf R (r .place)) b0)) (when (eqb b 60) (goes [] (State.markup (placeOf R (r .place)))) (refused misplaced))
+      ≡ when (inClass blank b) (goes [] (State.at (placeOf R (r .place)) b0))
+      (when (eqb b 60) (goes [] (State.markup (placeOf R (r .place)))) (refused misplaced))
   unfolding step pick
   at-outer (Outer.before e) =
       subst
@@ -137,7 +138,8 @@ module _ (r : Reader) (R : List ℕ) (b : ℕ) (kept : Kept R (r .place)) where
   rest : Br → Place → Arms
   rest k P =
       lit 93 (goes [] (State.at P (bracket k)))
-      (lit 62 (greater k (State.at P b0)) (lit 60 (goes [] (State.markup P)) (lit 38 (goes [] (State.amper (State.at P b0))) (oneOf utf8 notChar [] (State.at P b0)))))
+      (lit 62 (greater k (State.at P b0))
+      (lit 60 (goes [] (State.markup P)) (lit 38 (goes [] (State.amper (State.at P b0))) (oneOf utf8 notChar [] (State.at P b0)))))
 
   at-inner :
       (k : Br) → Inner (r .place)
@@ -248,7 +250,8 @@ module _ (r : Reader) (R : List ℕ) (b : ℕ) (kept : Kept R (r .place)) where
 
   first-tick :
       bangTick two b
-      ≡ when (eqb b 45) (spellOn two mode.Bang 0 3) (when (eqb b 91) (refuseWith two cdata) (when (eqb b 68) (refuseWith two doctype) (refuseWith two misplaced)))
+      ≡ when (eqb b 45) (spellOn two mode.Bang 0 3)
+      (when (eqb b 91) (refuseWith two cdata) (when (eqb b 68) (refuseWith two doctype) (refuseWith two misplaced)))
   unfolding bangTick when two
   first-tick = refl
 
@@ -265,7 +268,9 @@ module _ (r : Reader) (R : List ℕ) (b : ℕ) (kept : Kept R (r .place)) where
       let P = placeOf R (r .place) in
       turn first-tick
       (by-test (eqb b 45)
-      (λ e. Matches.moves refl (ap (step bounds (State.bang P)) (eqb-true b 45 e) ∙ bang-dash P ∙ ap (goes []) (third-is R _ _ _ _)) (record { kept = kept; fits = Fits.bang h (inr refl) }))
+      (λ e.
+      Matches.moves refl (ap (step bounds (State.bang P)) (eqb-true b 45 e) ∙ bang-dash P ∙ ap (goes []) (third-is R _ _ _ _))
+      (record { kept = kept; fits = Fits.bang h (inr refl) }))
       (λ e.
       both _ _ refl
       (λ f. Matches.stops (omega arith) refl)

@@ -42,7 +42,8 @@ entityTest row n b =
     && (waits (derive b (entityLeft row n)) && entityOk (entityRow row n b) (n + 1))))
 
 entities-pass : T (upTo 5 (λ row. upTo 5 (λ n. not (entityOk row n) || upTo 256 (entityTest row n))))
-unfolding upTo entityTest entityOk spent waits sameRows sameRow sameClass derive keep inClass entityLeft derives word words when entityRow entityFrom goesOn sameBytes sameName
+unfolding upTo entityTest entityOk spent waits sameRows sameRow sameClass derive keep inClass entityLeft derives word words when
+    entityRow entityFrom goesOn sameBytes sameName
 entities-pass = tt
 
 or-other : (a b : Bool) → T a → T (not a || b) → T b
@@ -76,7 +77,8 @@ module _ (row n b : ℕ) (ok : EntityAt row n) (l : b < 256) where
       below 256 (entityTest row n)
       (or-other (entityOk row n) _ (ok .holds)
       (below 5 (λ m. not (entityOk row m) || upTo 256 (entityTest row m))
-      (below 5 (λ i. upTo 5 (λ m. not (entityOk i m) || upTo 256 (entityTest i m))) entities-pass row (row-below row n (ok .holds))) n (few-below row n (ok .holds))))
+      (below 5 (λ i. upTo 5 (λ m. not (entityOk i m) || upTo 256 (entityTest i m))) entities-pass row (row-below row n (ok .holds))) n
+      (few-below row n (ok .holds))))
       b l
 
 none-left : (row : ℕ) → entities ≡ entityLeft row 0

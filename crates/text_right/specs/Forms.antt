@@ -49,7 +49,8 @@ same-class [] (d ∷ ds) t = absurd t
 same-class (c ∷ cs) [] t = absurd t
 same-class (c ∷ cs) (d ∷ ds) t =
     ap₂ (λ x y. x ∷ y)
-    (ap₂ {A = ℕ} {B = ℕ} {C = Range} (λ x y. record { lo = x; hi = y }) (eqb→eq _ _ (and-l (eqb (c .lo) (d .lo)) _ t)) (eqb→eq _ _ (and-l (eqb (c .hi) (d .hi)) _ (and-r (eqb (c .lo) (d .lo)) _ t))))
+    (ap₂ {A = ℕ} {B = ℕ} {C = Range} (λ x y. record { lo = x; hi = y }) (eqb→eq _ _ (and-l (eqb (c .lo) (d .lo)) _ t))
+    (eqb→eq _ _ (and-l (eqb (c .hi) (d .hi)) _ (and-r (eqb (c .lo) (d .lo)) _ t))))
     (same-class cs ds (and-r (eqb (c .hi) (d .hi)) _ (and-r (eqb (c .lo) (d .lo)) _ t)))
 
 same-row : (c d : Row) → T (sameRow c d) → c ≡ d

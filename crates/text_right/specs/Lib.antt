@@ -18,3 +18,4 @@ pub mod Right
 pub mod Quiet
 pub mod Loops
 pub mod Walked
+pub mod Turned

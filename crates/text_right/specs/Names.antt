@@ -260,7 +260,8 @@ module _ (r : Reader) (R : List ℕ) (b : ℕ) (kept : Kept R (r .place)) where
         → f (placeOf done (r .place)) (nameIn done (r .place)) (attsOf done (r .count)) (nameIn done slot) ≡ stateOf (goTo r m) done
         → Fits done (goTo r m) m
         → Ticks
-        (named bounds (begunIn R slot (r .n)) (attsOf R (r .count)) (f (placeOf R (r .place)) (nameIn R (r .place)) (attsOf R (r .count)) (begunIn R slot (r .n))))
+        (named bounds (begunIn R slot (r .n)) (attsOf R (r .count))
+        (f (placeOf R (r .place)) (nameIn R (r .place)) (attsOf R (r .count)) (begunIn R slot (r .n))))
         (namedTick r R m)
     unfolding namedTick evsIn done slot
     named-right m f is ok =

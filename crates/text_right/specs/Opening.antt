@@ -160,7 +160,9 @@ module _ (r : Reader) (R : List ℕ) (b : ℕ) (kept : Kept R (r .place)) (at : 
   unfolding step pick declaredTick stateIn prologState evsIn
   declared-right l =
       both _ _ (blank-mark b)
-      (λ e. Matches.moves refl (ap (λ o. goes [] (State.apiece o)) (sym none-said)) (record { kept = kept; fits = Fits.prolog′ at (FitsIn.piece (record { most = omega arith })) }))
+      (λ e.
+      Matches.moves refl (ap (λ o. goes [] (State.apiece o)) (sym none-said))
+      (record { kept = kept; fits = Fits.prolog′ at (FitsIn.piece (record { most = omega arith })) }))
       (λ e.
       both _ _ (name-mark b)
       (λ f. Matches.stops (omega arith) refl)

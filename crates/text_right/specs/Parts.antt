@@ -36,25 +36,30 @@ use Rattle.text_right.specs.Ends.{word-at}
 use Rattle.text_right.specs.Markup.{check-yes, check-no}
 use Rattle.text_right.specs.Opening.{none-said, some-said}
 
-follow-pass : T (upTo 4 (λ k. same (mayFollow (saidNo k) version) (eqb k 0) && (same (mayFollow (saidNo k) encoding) (eqb k 1) && same (mayFollow (saidNo k) standalone) (leb 1 k && leb k 2))))
-unfolding upTo same mayFollow saidNo partNo when
+followTest : ℕ → Bool
+followTest k =
+    same (mayFollow (saidNo k) version) (eqb k 0)
+    && (same (mayFollow (saidNo k) encoding) (eqb k 1) && same (mayFollow (saidNo k) standalone) (leb 1 k && leb k 2))
+
+follow-pass : T (upTo 4 followTest)
+unfolding upTo followTest same mayFollow saidNo partNo when
 follow-pass = tt
 
 module _ (k : ℕ) (l : k ≤ 3) where
-  all-follow : T (same (mayFollow (saidNo k) version) (eqb k 0) && (same (mayFollow (saidNo k) encoding) (eqb k 1) && same (mayFollow (saidNo k) standalone) (leb 1 k && leb k 2)))
-  all-follow =
-      below 4
-      (λ k. same (mayFollow (saidNo k) version) (eqb k 0) && (same (mayFollow (saidNo k) encoding) (eqb k 1) && same (mayFollow (saidNo k) standalone) (leb 1 k && leb k 2)))
-      follow-pass k (omega arith)
+  all-follow : T (followTest k)
+  all-follow = below 4 followTest follow-pass k (omega arith)
 
   pub follow-first : mayFollow (saidNo k) version ≡ eqb k 0
+  unfolding followTest
   follow-first = same-is _ _ (and-l (same (mayFollow (saidNo k) version) (eqb k 0)) _ all-follow)
 
   pub follow-second : mayFollow (saidNo k) encoding ≡ eqb k 1
+  unfolding followTest
   follow-second =
       same-is _ _ (and-l (same (mayFollow (saidNo k) encoding) (eqb k 1)) _ (and-r (same (mayFollow (saidNo k) version) (eqb k 0)) _ all-follow))
 
   pub follow-third : mayFollow (saidNo k) standalone ≡ (leb 1 k && leb k 2)
+  unfolding followTest
   follow-third =
       same-is _ _ (and-r (same (mayFollow (saidNo k) encoding) (eqb k 1)) _ (and-r (same (mayFollow (saidNo k) version) (eqb k 0)) _ all-follow))
 
@@ -136,7 +141,8 @@ module _ (row n : ℕ) (ok : NameAt row n) where
   name-passes : T (nameTest row n)
   name-passes =
       or-other (nameOk row n) _ (ok .holds)
-      (below 10 (λ m. not (nameOk row m) || nameTest row m) (below 4 (λ i. upTo 10 (λ m. not (nameOk i m) || nameTest i m)) names-pass row row-below) n few-below)
+      (below 10 (λ m. not (nameOk row m) || nameTest row m)
+      (below 4 (λ i. upTo 10 (λ m. not (nameOk i m) || nameTest i m)) names-pass row row-below) n few-below)
 
   named-byte : NamedByte row n
   unfolding nameTest nameLength
@@ -181,7 +187,8 @@ value-first : (row : ℕ) → PartAt row → ValueFirst row
 unfolding firstTest
 value-first row h =
     let high = h .high in
-    let t : T (firstTest row) = or-other (leb 1 row) (firstTest row) (le→leb 1 row (h .low)) (below 4 (λ i. not (leb 1 i) || firstTest i) firsts-pass row (omega arith)) in
+    let u = below 4 (λ i. not (leb 1 i) || firstTest i) firsts-pass row (omega arith) in
+    let t : T (firstTest row) = or-other (leb 1 row) (firstTest row) (le→leb 1 row (h .low)) u in
     let a = sameRows (partValues (partNo row) 34) (valueLeft row 0 34) in
     let c = sameRows (partValues (partNo row) 39) (valueLeft row 0 39) in
     record {

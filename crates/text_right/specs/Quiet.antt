@@ -84,7 +84,7 @@ pub data Quiet : Reader → List ℕ → List ℕ → Reader → List ℕ → Ty
       → Quiet x S u y T
       → Quiet r R (b ∷ u) y T
 
-given-none : (x : Result) → given [] x ≡ x
+pub given-none : (x : Result) → given [] x ≡ x
 unfolding given
 given-none (stopped es r t) = refl
 given-none (stands es s) = refl

@@ -61,11 +61,13 @@ valueTest q row n b =
     && (eqb (valueRefusal (valueRow row n b)) (partRefusal (partNo row)) && leftTest q n b (valueRow row n b) (derive b (valueLeft row n q))))
 
 double-pass : T (upTo 5 (λ row. upTo 6 (λ n. not (valueOk row n) || upTo 256 (valueTest 34 row n))))
-unfolding upTo valueOk valueTest leftTest valueRow partOf valueRefusal valueByte small partNo spent waits sameRows sameRow sameClass derive keep inClass valueLeft partValues word words when
+unfolding upTo valueOk valueTest leftTest valueRow partOf valueRefusal valueByte small partNo spent waits sameRows sameRow sameClass
+    derive keep inClass valueLeft partValues word words when
 double-pass = tt
 
 single-pass : T (upTo 5 (λ row. upTo 6 (λ n. not (valueOk row n) || upTo 256 (valueTest 39 row n))))
-unfolding upTo valueOk valueTest leftTest valueRow partOf valueRefusal valueByte small partNo spent waits sameRows sameRow sameClass derive keep inClass valueLeft partValues word words when
+unfolding upTo valueOk valueTest leftTest valueRow partOf valueRefusal valueByte small partNo spent waits sameRows sameRow sameClass
+    derive keep inClass valueLeft partValues word words when
 single-pass = tt
 
 or-other : (a b : Bool) → T a → T (not a || b) → T b
@@ -95,6 +97,15 @@ module _ (r : Reader) (R : List ℕ) (b : ℕ) (kept : Kept R (r .place)) (at : 
   within : ℕ → ℕ → ℕ → State
   within q row n = State.rows (valueLeft row n q) (partRefusal (partNo row)) [] (State.told (partNo row))
 
+  -- the value does not go on so
+  none-left :
+      (row n q y : ℕ)
+      → partRefusal (partNo row) ≡ valueRefusal y
+      → T (sameRows (derive b (valueLeft row n q)) [])
+      → settle (derive b (valueLeft row n q)) (partRefusal (partNo row)) [] (State.told (partNo row)) ≡ refused (valueRefusal y)
+  none-left row n q y e h =
+      ap (λ z. settle z (partRefusal (partNo row)) [] (State.told (partNo row))) (same-rows (derive b (valueLeft row n q)) [] h) ∙ ap refused e
+
   quoted-right :
       (q : ℕ) (m : Prolog)
       → T (valueTest q (r .row) (r .n) b)
@@ -119,8 +130,6 @@ module _ (r : Reader) (R : List ℕ) (b : ℕ) (kept : Kept R (r .place)) (at : 
       sym (part-of row) ∙ ap partNo (sym (eqb→eq _ _ (and-l (eqb (partOf y) (partOf row)) _ t))) ∙ part-of y in
       let refusal : partRefusal (partNo (r .row)) ≡ valueRefusal (valueRow (r .row) (r .n) b) =
       sym (eqb→eq (valueRefusal y) x (and-l (eqb (valueRefusal y) x) (leftTest q n b y d) t₂)) in
-      let stop : T (sameRows (derive b (valueLeft (r .row) (r .n) q)) []) → settle (derive b (valueLeft (r .row) (r .n) q)) (partRefusal (partNo (r .row))) [] (State.told (partNo (r .row))) ≡ refused (valueRefusal (valueRow (r .row) (r .n) b)) =
-      λ h. ap (λ z. settle z x [] k) (same-rows d [] h) ∙ ap refused refusal in
       let last = when (eqb b q) (spent d) (sameRows d []) in
       let next = when (eqb (small y b) (valueByte y n)) (sameRows d more && (waits d && valueOk y (n + 1))) (sameRows d []) in
       turn (when-false _ _ _ (le-ltb 5 (r .n) (omega arith)))
@@ -141,7 +150,7 @@ module _ (r : Reader) (R : List ℕ) (b : ℕ) (kept : Kept R (r .place)) (at : 
               high = leb→le _ _ (and-r (leb 1 (partOf y)) (leb (partOf y) 3) range);
             }));
       }))
-      (λ f. Matches.stops (refusal-some y) (stop (chosen-false (eqb b q) (spent d) (sameRows d []) f u))))
+      (λ f. Matches.stops (refusal-some y) (none-left (r .row) (r .n) q y refusal (chosen-false (eqb b q) (spent d) (sameRows d []) f u))))
       (λ e.
       let u = chosen-false (eqb (valueByte y n) 0) last next e t₃ in
       let on = sameRows d more && (waits d && valueOk y (n + 1)) in
@@ -154,14 +163,16 @@ module _ (r : Reader) (R : List ℕ) (b : ℕ) (kept : Kept R (r .place)) (at : 
       ∙ ap₂ (λ z p. goes [] (State.rows z (partRefusal p) [] (State.told p))) (same-rows d more (and-l (sameRows d more) (waits d && valueOk y (n + 1)) v)) same
       ∙ ap (goes []) (is y (n + 1)))
       (record { kept = kept; fits = Fits.prolog′ at (fit y (n + 1) (record { holds = and-r (waits d) (valueOk y (n + 1)) w })) }))
-      (λ f. Matches.stops (refusal-some y) (stop (chosen-false (eqb (small y b) (valueByte y n)) on (sameRows d []) f u)))))
+      (λ f. Matches.stops (refusal-some y) (none-left (r .row) (r .n) q y refusal (chosen-false (eqb (small y b) (valueByte y n)) on (sameRows d []) f u)))))
 
   pub double-right :
       b < 256 → r .mode ≡ mode.Prolog prolog.PartDouble → ValueAt (r .row) (r .n)
       → Matches (step bounds (prologState R (r .back) (r .place) (r .count) (r .row) (r .n) prolog.PartDouble) b) (quotedTick r b 34) R
   unfolding prologState within
   double-right l e ok =
-      subst (λ m. Matches (step bounds (prologState R (r .back) (r .place) (r .count) (r .row) (r .n) prolog.PartDouble) b) (quotedTick (moded r m) b 34) R) (sym e)
+      subst
+      (λ m. Matches (step bounds (prologState R (r .back) (r .place) (r .count) (r .row) (r .n) prolog.PartDouble) b) (quotedTick (moded r m) b 34) R)
+      (sym e)
       (quoted-right 34 prolog.PartDouble (at-place 34 _ _ b double-pass ok l) (few-below _ _ ok) (λ row n. refl) (λ row n h. FitsIn.partDouble h))
 
   pub single-right :
@@ -169,5 +180,7 @@ module _ (r : Reader) (R : List ℕ) (b : ℕ) (kept : Kept R (r .place)) (at : 
       → Matches (step bounds (prologState R (r .back) (r .place) (r .count) (r .row) (r .n) prolog.PartSingle) b) (quotedTick r b 39) R
   unfolding prologState within
   single-right l e ok =
-      subst (λ m. Matches (step bounds (prologState R (r .back) (r .place) (r .count) (r .row) (r .n) prolog.PartSingle) b) (quotedTick (moded r m) b 39) R) (sym e)
+      subst
+      (λ m. Matches (step bounds (prologState R (r .back) (r .place) (r .count) (r .row) (r .n) prolog.PartSingle) b) (quotedTick (moded r m) b 39) R)
+      (sym e)
       (quoted-right 39 prolog.PartSingle (at-place 39 _ _ b single-pass ok l) (few-below _ _ ok) (λ row n. refl) (λ row n h. FitsIn.partSingle h))

@@ -9,20 +9,20 @@ use Prim.Native.Nat.{ℕ, _<_}
 use native.Mathlib.Omega.{arith}
 use mathlib.Core.Path.{_≡_, refl}
 use mathlib.Core.List.{List}
-use Rattle.xml.specs.Machine.{refused, goes, step}
+use Rattle.xml.specs.Machine.{Outcome, refused, goes, step}
 use Rattle.xml.specs.Limited.{bounds}
 use Rattle.modes.specs.declared.Mode.{Mode}
 use Rattle.modes.specs.declared.Mode.the-variants as mode
 use Rattle.modes.specs.declared.Prolog.{Prolog}
 use Rattle.modes.specs.declared.Reader.{Reader}
 use Rattle.prolog.specs.Tick.{prologTick}
-use Rattle.tags.specs.Markup.{Ticked}
 use Rattle.tick.specs.Tick.{tickIn, tick}
 use Rattle.text_right.specs.Marked.{marksTable}
 use Rattle.text_right.specs.Stands.{prologState, stateIn, stateOf, evsOf}
 use Rattle.text_right.specs.Sound.{Kept, Back, FitsIn, Fits, Sound}
 use Rattle.text_right.specs.Matched.{Matches, Ticks}
-use Rattle.text_right.specs.Content.{char-right, around-right, data-right, bracket-right, brackets-right, note-right, dash-right, dashes-right, bang-right}
+use Rattle.text_right.specs.Content.{char-right, around-right, data-right, bracket-right, brackets-right}
+use Rattle.text_right.specs.Content.{note-right, dash-right, dashes-right, bang-right}
 use Rattle.text_right.specs.Values
 use Rattle.text_right.specs.Values.{tagged-right}
 use Rattle.text_right.specs.Ends.{slash-right, ended-right, end-right}
@@ -93,31 +93,31 @@ unfolding tick
 tick-right r R b s l = in-right r R b (s .kept) l (s .fits) refl
 
 -- the same, as equations
+unfolded-goes : {o : Outcome} {x : Reader} {R : List ℕ} → x .refusal ≡ 0 → Matches o x R → o ≡ goes (evsOf x R) (stateOf x R)
+unfolded-goes e (Matches.moves f g h) = g
+unfolded-goes e (Matches.stops f g) = absurd (omega arith)
+
+unfolded-sound : {o : Outcome} {x : Reader} {R : List ℕ} → x .refusal ≡ 0 → Matches o x R → Sound x R
+unfolded-sound e (Matches.moves f g h) = h
+unfolded-sound e (Matches.stops f g) = absurd (omega arith)
+
+unfolded-stops : {o : Outcome} {x : Reader} {R : List ℕ} → 0 < x .refusal → Matches o x R → o ≡ refused (x .refusal)
+unfolded-stops e (Matches.moves f g h) = absurd (omega arith)
+unfolded-stops e (Matches.stops f g) = g
+
 module _ (r : Reader) (R : List ℕ) (b : ℕ) (s : Sound r R) (l : b < 256) where
-  after : Ticked
-  after = tick marksTable r b R
+  -- the reader and its room after the byte
+  abbrev pub next : Reader
+  next = (tick marksTable r b R) .reader
 
-  pub tick-goes : (tick marksTable r b R) .reader .refusal ≡ 0
-      → step bounds (stateOf r R) b
-      ≡ goes (evsOf ((tick marksTable r b R) .reader) ((tick marksTable r b R) .room)) (stateOf ((tick marksTable r b R) .reader) ((tick marksTable r b R) .room))
-  tick-goes e = go (tick-right r R b s l)
-    where
-      go : Ticks (step bounds (stateOf r R) b) (tick marksTable r b R)
-          → step bounds (stateOf r R) b
-          ≡ goes (evsOf ((tick marksTable r b R) .reader) ((tick marksTable r b R) .room)) (stateOf ((tick marksTable r b R) .reader) ((tick marksTable r b R) .room))
-      go (Matches.moves f g h) = g
-      go (Matches.stops f g) = absurd (omega arith)
+  abbrev pub room : List ℕ
+  room = (tick marksTable r b R) .room
 
-  pub tick-sound : (tick marksTable r b R) .reader .refusal ≡ 0 → Sound ((tick marksTable r b R) .reader) ((tick marksTable r b R) .room)
-  tick-sound e = go (tick-right r R b s l)
-    where
-      go : Ticks (step bounds (stateOf r R) b) (tick marksTable r b R) → Sound ((tick marksTable r b R) .reader) ((tick marksTable r b R) .room)
-      go (Matches.moves f g h) = h
-      go (Matches.stops f g) = absurd (omega arith)
+  pub tick-goes : next .refusal ≡ 0 → step bounds (stateOf r R) b ≡ goes (evsOf next room) (stateOf next room)
+  tick-goes e = unfolded-goes e (tick-right r R b s l)
 
-  pub tick-stops : 0 < (tick marksTable r b R) .reader .refusal → step bounds (stateOf r R) b ≡ refused ((tick marksTable r b R) .reader .refusal)
-  tick-stops e = go (tick-right r R b s l)
-    where
-      go : Ticks (step bounds (stateOf r R) b) (tick marksTable r b R) → step bounds (stateOf r R) b ≡ refused ((tick marksTable r b R) .reader .refusal)
-      go (Matches.moves f g h) = absurd (omega arith)
-      go (Matches.stops f g) = g
+  pub tick-sound : next .refusal ≡ 0 → Sound next room
+  tick-sound e = unfolded-sound e (tick-right r R b s l)
+
+  pub tick-stops : 0 < next .refusal → step bounds (stateOf r R) b ≡ refused (next .refusal)
+  tick-stops e = unfolded-stops e (tick-right r R b s l)

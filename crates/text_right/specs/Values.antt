@@ -184,7 +184,9 @@ module _ (r : Reader) (R : List ℕ) (b : ℕ) (kept : Kept R (r .place)) where
       → Matches (step bounds (stateIn R (r .back) (r .place) (r .count) (r .row) (r .n) mode.Double) b) (quotedTick marksTable r b 2 34) R
   unfolding stateIn backState
   double-right l e h =
-      subst (λ m. Matches (step bounds (stateIn R (r .back) (r .place) (r .count) (r .row) (r .n) mode.Double) b) (quotedTick marksTable (moded r m) b 2 34) R) (sym e)
+      subst
+      (λ m. Matches (step bounds (stateIn R (r .back) (r .place) (r .count) (r .row) (r .n) mode.Double) b) (quotedTick marksTable (moded r m) b 2 34) R)
+      (sym e)
       (quoted-right mode.Double true 2 l (double-mark b) h (Back.double h) refl)
 
   pub single-right :
@@ -194,5 +196,7 @@ module _ (r : Reader) (R : List ℕ) (b : ℕ) (kept : Kept R (r .place)) where
       → Matches (step bounds (stateIn R (r .back) (r .place) (r .count) (r .row) (r .n) mode.Single) b) (quotedTick marksTable r b 4 39) R
   unfolding stateIn backState
   single-right l e h =
-      subst (λ m. Matches (step bounds (stateIn R (r .back) (r .place) (r .count) (r .row) (r .n) mode.Single) b) (quotedTick marksTable (moded r m) b 4 39) R) (sym e)
+      subst
+      (λ m. Matches (step bounds (stateIn R (r .back) (r .place) (r .count) (r .row) (r .n) mode.Single) b) (quotedTick marksTable (moded r m) b 4 39) R)
+      (sym e)
       (quoted-right mode.Single false 4 l (single-mark b) h (Back.single h) refl)

@@ -53,7 +53,8 @@ front u v f =
     record {
       each =
           λ i h.
-          subst (λ x. x < 256) (List·getD-append u v 0 i h) (f .each i (subst (λ n. i < n) (sym (length-append u v)) (let k : i < length u = h in omega arith)));
+          let k : i < length u = h in
+          subst (λ x. x < 256) (List·getD-append u v 0 i h) (f .each i (subst (λ n. i < n) (sym (length-append u v)) (omega arith)));
     }
 
 module _ (r : Reader) (R t : List ℕ) (at : ℕ) where
@@ -124,7 +125,8 @@ module _ (r : Reader) (R t : List ℕ) (at : ℕ) where
         let z : walked marksTable r at t R .at - at ≡ length (w .over) = omega arith in
         ap (λ u. run bounds u (stateOf r R)) (w .split)
         ∙ quiet-run (w .rest) s (front (w .over) (w .rest) (subst Bytes (w .split) f)) (w .quiet)
-        ∙ ap (λ u. run bounds u (stateOf (hereAfter r x) (x .room))) (sym (ap (drop (x .at - at)) (w .split) ∙ ap (λ n. drop n (w .over ++ w .rest)) z ∙ drop-append-seam (w .over) (w .rest)))
+        ∙ ap (λ u. run bounds u (stateOf (hereAfter r x) (x .room)))
+        (sym (ap (drop (x .at - at)) (w .split) ∙ ap (λ n. drop n (w .over ++ w .rest)) z ∙ drop-append-seam (w .over) (w .rest)))
 
     pub walk-sound : Bytes t → Sound (hereAfter r (walked marksTable r at t R)) (walked marksTable r at t R .room)
     walk-sound f = let w = walked-quiet in quiet-sound s (front (w .over) (w .rest) (subst Bytes (w .split) f)) (w .quiet)
