@@ -19,3 +19,4 @@ pub mod Quiet
 pub mod Loops
 pub mod Walked
 pub mod Turned
+pub mod Numbered

@@ -5,7 +5,7 @@
 --   turn-right           a turn of the code is so for the machine
 --
 -- Assumes nothing.
-use Prim.Native.Nat.{ℕ, suc, _+_, _-_, _≤_, _<_}
+use Prim.Native.Nat.{ℕ, suc, _+_, _-_, _<_}
 use native.Mathlib.Omega.{arith}
 use native.Mathlib.Numerals.{add-one}
 use mathlib.Core.Path.{_≡_, refl, sym, ap, _∙_, subst}
@@ -15,7 +15,7 @@ use lib.ListN.{length, getD, drop, length-drop}
 use lib.Seq.{drop-cons, drop-drop, getD-drop}
 use borrow.Author.Tests.{eq-eqb, ne-eqb, leb-false}
 use Rattle.choice.specs.When.{when-known, when-true, when-false}
-use Rattle.xml.specs.Machine.{State, step, Result, stopped, stands, given, next, run}
+use Rattle.xml.specs.Machine.{State, step, Result, stopped, given, next, run}
 use Rattle.xml.specs.Limited.{bounds}
 use Rattle.modes.specs.declared.Mode.the-variants as mode
 use Rattle.modes.specs.declared.Prolog.the-variants as prolog
