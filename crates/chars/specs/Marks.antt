@@ -5,7 +5,7 @@
 --
 -- Assumes nothing. NOT here: which marks a byte has (Table).
 pub mod Laws
-use Prim.Native.Nat.{ℕ, zero, suc}
+use Prim.Native.Nat.{ℕ, suc}
 use mathlib.Core.Bool.{Bool, not}
 use mathlib.Core.List.{List, [], _∷_}
 use lib.Bits.{bitAnd}

@@ -9,7 +9,7 @@ ghost use lib.ListN.{length};
 ghost use Rattle.slots.specs.Slots.{roomNeeded, nameIn};
 ghost use Rattle.chains.specs.Index.{indexWords};
 ghost use Rattle.names.specs.Number.{numberOf};
-ghost use Rattle.emit.specs.Emit.{closingSlot, Emitted, bothIn, opened, closed, emitted};
+ghost use Rattle.emit.specs.Emit.{closingSlot, bothIn, opened, closed, emitted};
 
 // The slot of the element that was just closed.
 fn closing(place: u16) -> usize

@@ -37,7 +37,9 @@ xmlOpening = 60 ∷ 63 ∷ 120 ∷ 109 ∷ 108 ∷ []
 unfoldable pub xmlTick : Reader → ℕ → Reader
 xmlTick r b =
     when (leb 5 (r .n)) (refuseWith r instruction)
-    (when (eqb b (getD xmlOpening (r .n) 0)) (when (eqb (r .n) 4) (goTo r (mode.Prolog prolog.Declared)) (spellOn r (mode.Prolog prolog.Xml) 0 (r .n + 1))) (refuseWith r instruction))
+    (when (eqb b (getD xmlOpening (r .n) 0))
+    (when (eqb (r .n) 4) (goTo r (mode.Prolog prolog.Declared)) (spellOn r (mode.Prolog prolog.Xml) 0 (r .n + 1)))
+    (refuseWith r instruction))
 
 unfoldable pub declaredTick : List ℕ → Reader → ℕ → Reader
 declaredTick M r b =

@@ -10,7 +10,6 @@
 -- M are the marks of the bytes. Assumes nothing. NOT here: that these are the machine's steps (crate text_right).
 pub mod Laws
 use Prim.Native.Nat.{ℕ, _+_, _*_, _-_}
-use mathlib.Core.Bool.{not}
 use mathlib.Core.List.{List, [], _∷_}
 use lib.Dec.{eqb, leb, ltb}
 use lib.ListN.{getD}
@@ -70,7 +69,9 @@ partTick r b =
     (refuseWith r misplaced)))
 
 unfoldable pub partEqualsTick : List ℕ → Reader → ℕ → Reader
-partEqualsTick M r b = when (marked M b 64) (goTo r (mode.Prolog prolog.PartEquals)) (when (eqb b 61) (goTo r (mode.Prolog prolog.PartValue)) (refuseWith r misplaced))
+partEqualsTick M r b =
+    when (marked M b 64) (goTo r (mode.Prolog prolog.PartEquals))
+    (when (eqb b 61) (goTo r (mode.Prolog prolog.PartValue)) (refuseWith r misplaced))
 
 unfoldable pub partValueTick : List ℕ → Reader → ℕ → Reader
 partValueTick M r b =

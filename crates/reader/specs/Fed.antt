@@ -8,9 +8,9 @@
 --
 -- Assumes nothing. NOT here: that this is the machine's run (crate text_right).
 pub mod Laws
-use Prim.Native.Nat.{ℕ, zero, suc, _+_, _-_}
+use Prim.Native.Nat.{ℕ, zero, suc, _-_}
 use mathlib.Core.Bool.{Bool, false}
-use mathlib.Core.List.{List, [], _∷_}
+use mathlib.Core.List.{List}
 use lib.Dec.{eqb, leb}
 use lib.ListN.{length}
 use Rattle.choice.specs.When.{when}

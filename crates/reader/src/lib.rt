@@ -4,11 +4,11 @@ use modes::Mode;
 use modes::Prolog;
 use modes::Reader;
 ghost use mathlib.Core.Path.{_≡_};
-ghost use Prim.Native.Nat.{_+_, _≤_};
+ghost use Prim.Native.Nat.{_≤_};
 ghost use lib.ListN.{length};
 ghost use Rattle.slots.specs.Slots.{roomNeeded};
 ghost use Rattle.chains.specs.Index.{indexWords};
-ghost use Rattle.reader.specs.Fed.{freshReader, moreToRead, Going, readOn};
+ghost use Rattle.reader.specs.Fed.{freshReader, moreToRead, readOn};
 
 // How many bytes of room a feed asks for, and of output: the two events that one byte can give.
 pub const ROOM: usize = 18496;
@@ -66,7 +66,7 @@ fn read_on(
     ensures { λ r. ⌜ record { reader = r .reader; at = r .taken; room = now (room .exit); out = now (out .exit); written = r .written }
         ≡ readOn (now (names .entry)) (now (index .entry)) (now (text .entry)) reader (now (room .entry)) (now (out .entry)) ⌝ }
 {
-    let marks = chars::MARKS;
+    let marks = chars::marks::MARKS;
     let mut r = reader;
     let mut at: usize = 0;
     let mut written: usize = 0;

@@ -4,7 +4,7 @@ ghost use mathlib.Core.Path.{_≡_};
 ghost use Prim.Native.Nat.{_+_, _≤_, _<_};
 ghost use lib.ListN.{length, set, getD, drop};
 ghost use Rattle.slots.specs.Slots.{roomNeeded, baseOf, lengthIn, numberIn, numbered};
-ghost use Rattle.slots.specs.Copied.{Copied, copied, Agreed, agreed, isName, doubledIn};
+ghost use Rattle.slots.specs.Copied.{copied, agreed, isName, doubledIn};
 
 // A slot: 64 bytes of a name, its length, the two bytes of its number, high byte first, and one that is not used.
 pub const SLOT: usize = 68;

@@ -10,8 +10,9 @@ use modes::Reader;
 ghost use mathlib.Core.Path.{_≡_};
 ghost use lib.ListN.{length};
 ghost use Rattle.slots.specs.Slots.{roomNeeded};
-ghost use Rattle.tags.specs.Markup.{Ticked, begun, slashedTick, markupTick, firstTick};
-ghost use Rattle.tags.specs.Tag.{nameByte, tagEnd, tagTick, taggedTick, attBegun, gapTick, namedTick, attTick, equalsTick, valueTick, attEnded, quotedTick};
+ghost use Rattle.tags.specs.Markup.{begun, slashedTick, markupTick, firstTick};
+ghost use Rattle.tags.specs.Tag.{nameByte, tagEnd, tagTick, taggedTick, attBegun, gapTick};
+ghost use Rattle.tags.specs.Tag.{namedTick, attTick, equalsTick, valueTick, attEnded, quotedTick};
 
 // An element begins.
 fn begin(r: Reader, b: u8, room: &mut [u8]) -> Reader

@@ -4,7 +4,6 @@ use modes::Reader;
 ghost use mathlib.Core.Path.{_≡_};
 ghost use lib.ListN.{length};
 ghost use Rattle.slots.specs.Slots.{roomNeeded};
-ghost use Rattle.tags.specs.Markup.{Ticked};
 ghost use Rattle.tick.specs.Tick.{tick};
 
 pub fn tick(marks: &[u8; 256], r: Reader, b: u8, room: &mut [u8]) -> Reader

@@ -7,8 +7,7 @@
 -- Assumes nothing.
 use Prim.Native.Nat.{ℕ, suc, _+_, _-_, _≤_, _<_}
 use native.Mathlib.Omega.{arith}
-use mathlib.Core.Path.{_≡_, refl, sym, ap, _∙_, subst}
-use mathlib.Core.Bool.{Bool, true, false}
+use mathlib.Core.Path.{_≡_, sym, subst}
 use mathlib.Core.List.{List, [], _∷_}
 use lib.Dec.{eqb, leb}
 use lib.ListN.{length, getD, set, drop, length-drop}
@@ -18,7 +17,6 @@ use Rattle.chars.specs.Marks.{marked, span}
 use Rattle.slots.specs.Slots.{baseOf, lengthIn}
 use Rattle.slots.specs.Copied.{Copied, copied, Agreed, agreed, nameMark}
 use Rattle.modes.specs.declared.Reader.{Reader}
-use Rattle.tags.specs.Markup.{Ticked}
 use Rattle.tick.specs.Tick.{tick}
 use Rattle.walk.specs.declared.Pace.{Pace}
 use Rattle.walk.specs.declared.Pace.the-variants as pace
@@ -92,4 +90,5 @@ module _ (M : List ℕ) (r : Reader) (t : List ℕ) (at : ℕ) (R : List ℕ) (l
       (λ e f. let k : length t ≤ w .at = leb-true _ _ e in omega arith)
       (λ e f.
       let x = tick M (hereAfter r w) (getD t (w .at) 0) (w .room) in
-      subst (λ n. at < n) (sym (when-true (eqb (x .reader .refusal) 0) (w .at + 1) (w .at) (eq-eqb _ 0 f))) (let z : at < w .at + 1 = omega (arith, inside .0) in z))
+      subst (λ n. at < n) (sym (when-true (eqb (x .reader .refusal) 0) (w .at + 1) (w .at) (eq-eqb _ 0 f)))
+      (let z : at < w .at + 1 = omega (arith, inside .0) in z))

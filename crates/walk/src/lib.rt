@@ -6,9 +6,8 @@ ghost use mathlib.Core.Path.{_≡_};
 ghost use Prim.Native.Nat.{_≤_, _<_};
 ghost use lib.ListN.{length, drop};
 ghost use Rattle.slots.specs.Slots.{roomNeeded};
-ghost use Rattle.slots.specs.Copied.{Copied};
 ghost use Rattle.walk.specs.Walk.{innermostOf, paceOf, walked};
-ghost use Rattle.walk.specs.Turn.{Turned, turned};
+ghost use Rattle.walk.specs.Turn.{turned};
 
 // What a loop does with the next bytes.
 pub enum Pace {

@@ -8,7 +8,7 @@
 -- Assumes nothing. NOT here: what a class and a row are (Class).
 use Prim.Native.Nat.{ℕ}
 use mathlib.Core.Bool.{Bool, true, false}
-use mathlib.Core.List.{List, [], _∷_}
+use mathlib.Core.List.{[], _∷_}
 use Rattle.xml.specs.Class.{Class, Rows, to, only}
 
 -- [3] S ::= (#x20 | #x9 | #xD | #xA)+

@@ -6,14 +6,14 @@
 --   Document L t es              t is a document within the limits L, and es are its events
 --
 -- A production  a ::= b c  is a constructor  B t → C u → A (t ++ u).  Bytes are numbers: 60 is '<', 62 '>', 38 '&', 47 '/', 61 '=', 45 '-', 93 ']'.
--- Assumes nothing. NOT here: the characters (Chars), how a text is read (Machine), that CharData is W3C's (Data).
+-- Assumes nothing. NOT here: the characters (Chars), how a text is read (Machine), that CharData is W3C's (crate reading, Wording).
 use Prim.Native.Nat.{ℕ, suc, _-_}
 use mathlib.Core.Bool.{Bool, true, false, not, _&&_, _||_}
 use mathlib.Core.Option.{Option}
 use mathlib.Core.List.{List, [], _∷_, _++_}
 use lib.Dec.{T, eqb}
 use lib.ListN.{length}
-use Rattle.xml.specs.Class.{Class, Row, Rows, only, In, OneOf, words}
+use Rattle.xml.specs.Class.{Class, Rows, only, In, OneOf, words}
 use Rattle.xml.specs.Chars.{blank, nameStart, nameChar, utf8, noDash, plain, quote, unquoted}
 
 pub record Limits : Type 0 where

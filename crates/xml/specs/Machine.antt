@@ -6,9 +6,8 @@
 --   Arms                   the cases of a state, first match: a class of bytes, one byte, one of some rows, or a refusal
 --   arms L s               the cases of s: the whole table of the reader
 --   step L s b             the outcome of one byte;  run: of a text;  Result: what came of it
---   ends s                 a text that ends here is a whole document
 --
--- Assumes nothing. NOT here: that it accepts what the grammar derives (Leads), and nothing else (After).
+-- Assumes nothing. NOT here: that it accepts what the grammar derives, and nothing else (crate reading).
 use Prim.Native.Nat.{ℕ, suc}
 use mathlib.Core.Bool.{Bool, true, false, not}
 use mathlib.Core.Option.{Option, none, some}

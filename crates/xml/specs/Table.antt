@@ -54,13 +54,13 @@ module _ (L : Limits) where
     notChar : {t w : List ℕ} {b : ℕ} → Texted t → Fails character w b → Refusal 31 (t ++ w) b
     -- "D comes after <! where markup begins: a document type"
     doctype : {p : Place} {k : Br} {t : List ℕ} {es : List Ev} → At L p k t es → Refusal 32 (t ++ (60 ∷ 33 ∷ [])) 68
-    -- "? comes after < anywhere but at the very start"
+    -- "a processing instruction: `?` after `<`, but at the very start"
     instruction :
         {p : Place} {k : Br} {t : List ℕ} {es : List Ev} → At L p k t es → Late p t → Refusal 33 (t ++ (60 ∷ [])) 63
-    -- "at the very start a byte after <? with which <?xml does not go on"
+    -- "there a byte with which `<?xml` does not go on"
     target :
         {t w : List ℕ} {b : ℕ} → Mark t → Fails (word (120 ∷ 109 ∷ 108 ∷ []) ∷ []) w b → Refusal 33 (t ++ (60 ∷ 63 ∷ w)) b
-    -- "or a byte of a name, or one of 128 or more, after <?xml"
+    -- "or one of a name after it"
     longerTarget : {t : List ℕ} {b : ℕ} → Mark t → NameByte b → Refusal 33 (t ++ (60 ∷ 63 ∷ 120 ∷ 109 ∷ 108 ∷ [])) b
     -- "[ comes after <! where markup begins: a CDATA section"
     cdata : {p : Place} {k : Br} {t : List ℕ} {es : List Ev} → At L p k t es → Refusal 34 (t ++ (60 ∷ 33 ∷ [])) 91
@@ -123,7 +123,7 @@ module _ (L : Limits) where
         → Eq u
         → Fails (partValues encoding (quote q)) w b
         → Refusal 42 (t ++ (u ++ (quote q ∷ w))) b
-    -- "a byte of 128 or more where the name of an element or of an attribute may begin or go on: a name beyond ASCII"
+    -- "a byte of 128 or more where the name of an element or an attribute may begin or go on, whatever the limits: a name beyond ASCII"
     foreignTag :
         {p : Place} {k : Br} {t : List ℕ} {b : ℕ} {es : List Ev}
         → At L p k t es

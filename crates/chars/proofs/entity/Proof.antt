@@ -42,8 +42,11 @@ loop-less c = omega arith
 loop-again : tie.Need-loop-again Inv-loop μ-loop
 loop-again c =
     let x = c .before .before .before .before in
-    let a = x .before .args in
-    (omega arith, x .loop .inv .1 ∙ entity-on entityTable (a .like) (a .n) (a .b) (x .loop .row) 5 (omega arith) (sym (c .before .goes-on .ensures) ∙ c .if1 .left))
+    let a = x .before .args in (
+      omega arith,
+      x .loop .inv .1
+          ∙ entity-on entityTable (a .like) (a .n) (a .b) (x .loop .row) 5 (omega arith) (sym (c .before .goes-on .ensures) ∙ c .if1 .left),
+    )
 
 returns-2 : tie.Need-returns-2 Inv-loop μ-loop
 returns-2 c =

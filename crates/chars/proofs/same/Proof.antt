@@ -1,7 +1,7 @@
 -- What is left to compare is the whole of it. Assumes nothing.
 use Prim.Native.Nat.{_+_, _-_, _≤_}
 use native.Mathlib.Omega.{arith}
-use mathlib.Core.Path.{_≡_, sym, ap₂, _∙_, ap}
+use mathlib.Core.Path.{_≡_, sym, _∙_}
 use Rattle.chars.specs.Same.{sameBytes}
 use Rattle.chars.specs.Same.Laws.{same-begin, same-done, same-stop, same-on}
 use Rattle.chars.proofs.same.Statement.{statement}

@@ -24,7 +24,10 @@ in-row-requires c κs = search needs
 
 returns-2 : tie.Need-returns-2
 unfolding quotedTick
-returns-2 c = let a = c .before .before .before .before .args in when-no _ _ _ _ (le-ltb 5 (a .r .n) (omega arith)) (c .in-row .ensures ∙ ap (quotedIn (a .r) (a .b) (a .quote)) (c .before .value-row .ensures))
+returns-2 c =
+    let a = c .before .before .before .before .args in
+    when-no _ _ _ _ (le-ltb 5 (a .r .n) (omega arith))
+    (c .in-row .ensures ∙ ap (quotedIn (a .r) (a .b) (a .quote)) (c .before .value-row .ensures))
 
 pub quoted-spec : {M : Type 1} → statement M
 quoted-spec =

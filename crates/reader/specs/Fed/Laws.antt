@@ -6,7 +6,7 @@
 --   left-begin, left-on, left-done      at the start, after a turn, and at the end;  at-within, less: a turn stays inside the text, and goes on
 --
 -- Assumes nothing.
-use Prim.Native.Nat.{ℕ, zero, suc, _+_, _-_, _*_, _≤_, _<_}
+use Prim.Native.Nat.{ℕ, suc, _+_, _-_, _*_, _≤_, _<_}
 use native.Mathlib.Omega.{arith}
 use mathlib.Core.Path.{_≡_, refl, sym, ap, _∙_, subst}
 use mathlib.Core.Bool.{Bool, true, false}
@@ -21,7 +21,7 @@ use Rattle.modes.specs.declared.Reader.{Reader}
 use Rattle.walk.specs.Turn.{Turned, turned}
 use Rattle.walk.specs.Within.{turned-within, turned-on}
 use Rattle.emit.specs.Emit.{Emitted, emitted}
-use Rattle.reader.specs.Fed.{moreToRead, Going, goneOn, advancedBy, advanced, goesOn, readFor, begunWith, readOn}
+use Rattle.reader.specs.Fed.{moreToRead, Going, goneOn, advancedBy, advanced, goesOn, readFor, begunWith}
 
 pub record More (r at end w out : ℕ) : Type 0 where
   pub unrefused : r ≡ 0
@@ -88,7 +88,9 @@ module _ (names x t : List ℕ) where
           before : boolByte (eqb (g .reader .refusal) 0) ≡ 1
           before = ap boolByte (eq-eqb _ 0 (more .unrefused))
 
-          go : (b : Bool) → eqb (T .reader .refusal) 0 ≡ b → 2 * (length t - T .at) + boolByte b < 2 * (length t - g .at) + boolByte (eqb (g .reader .refusal) 0)
+          go :
+              (b : Bool) → eqb (T .reader .refusal) 0 ≡ b
+              → 2 * (length t - T .at) + boolByte b < 2 * (length t - g .at) + boolByte (eqb (g .reader .refusal) 0)
           go true f =
               let on = turned-on marksTable (g .reader) t (g .at) (g .room) a (more .there) (subst (λ z. z .reader .refusal ≡ 0) p (eqb-true _ 0 f)) in
               let on′ : g .at < T .at = subst (λ z. g .at < z .at) (sym p) on in

@@ -5,7 +5,6 @@ use native.Mathlib.Omega.{arith}
 use mathlib.Core.Path.{_≡_, refl, sym, ap, _∙_}
 use lib.ListN.{length, getD, set, drop, length-set}
 use Rattle.chars.specs.Marks.Laws.{unmarked, is-marked}
-use Rattle.slots.specs.Slots.{baseOf}
 use Rattle.slots.specs.Slots.Laws.{room-is}
 use Rattle.slots.specs.Copied.{copied, nameMark}
 use Rattle.slots.specs.Copied.Laws.{copied-end, copied-other, copied-full, copied-on}

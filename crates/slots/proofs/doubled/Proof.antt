@@ -1,9 +1,8 @@
 -- What is left to look at is the whole of it. Assumes nothing.
-use Prim.Native.Nat.{_+_, _-_, _≤_}
+use Prim.Native.Nat.{_-_, _≤_}
 use borrow.Author.Needs.{needs}
 use native.Mathlib.Omega.{arith}
-use mathlib.Core.Path.{_≡_, refl, sym, ap, _∙_}
-use Rattle.slots.specs.Slots.Laws.{room-is}
+use mathlib.Core.Path.{_≡_, sym, _∙_}
 use Rattle.slots.specs.Copied.{doubledFrom, doubledIn}
 use Rattle.slots.specs.Copied.Laws.{doubled-begin, doubled-done, doubled-here, doubled-next}
 use Rattle.slots.proofs.doubled.Statement.{statement}

@@ -31,18 +31,29 @@ same-length c = search needs
 
 returns : tie.Need-returns
 unfolding walkedBy
-returns c = let x = c .before .before in let p = x .before .before .before in at-pace _ _ _ _ _ (p .before .before .pace-of .ensures) (p .pace .given .1) (x .copy .ensures)
+returns c =
+    let x = c .before .before in
+    let p = x .before .before .before in
+    at-pace _ _ _ _ _ (p .before .before .pace-of .ensures) (p .pace .given .1) (x .copy .ensures)
 
 same-length-2 : tie.Need-same-length-2
 same-length-2 c = search needs
 
 returns-2 : tie.Need-returns-2
 unfolding walkedBy
-returns-2 c = let p = c .before .before .before in let a = p .before .before .before .before .before .args in at-pace _ _ _ _ _ (p .before .before .pace-of .ensures) (p .pace2 .given .1) (ap (λ z. beside z (a .room .now)) (c .agree .ensures))
+returns-2 c =
+    let p = c .before .before .before in
+    let a = p .before .before .before .before .before .args in
+    at-pace _ _ _ _ _ (p .before .before .pace-of .ensures) (p .pace2 .given .1)
+    (ap (λ z. beside z (a .room .now)) (c .agree .ensures))
 
 returns-3 : tie.Need-returns-3
 unfolding walkedBy
-returns-3 c = let p = c .before .before in let a = p .before .before .before .before .before .args in at-pace _ _ _ _ _ (p .before .before .pace-of .ensures) (p .pace3 .given .1) (ap (λ z. record { at = z; n = a .r .n; room = a .room .now }) (c .skip .ensures))
+returns-3 c =
+    let p = c .before .before in
+    let a = p .before .before .before .before .before .args in
+    at-pace _ _ _ _ _ (p .before .before .pace-of .ensures) (p .pace3 .given .1)
+    (ap (λ z. record { at = z; n = a .r .n; room = a .room .now }) (c .skip .ensures))
 
 pub walk-spec : {M : Type 1} → statement M
 walk-spec =
