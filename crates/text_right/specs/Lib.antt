@@ -20,3 +20,4 @@ pub mod Loops
 pub mod Walked
 pub mod Turned
 pub mod Numbered
+pub mod Below

@@ -2,6 +2,7 @@
 --
 --   marksTable         the table that the code has (crate chars, Table), under a shut name;  table-is: it is that
 --   every f i l        the test f passes at each place of l, counted from i, and its entry;  at-each: so at a place
+--   same a b           two answers are the same, as a test;  same-is: they are
 --   agrees c m         the mark m is in the table exactly at the bytes of the class c;  mark-is: so for every byte
 --   plain-mark, double-mark, single-mark, dash-mark, name-mark, start-mark, blank-mark      the seven marks
 --   beyond-mark        a byte of 128 or more

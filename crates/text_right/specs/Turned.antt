@@ -1,6 +1,6 @@
 -- A turn, the bytes that a loop goes over and the one after them, and where a text begins.
 --
---   begin-sound          at the start of a text the reader is sound, and stands for the machine's start
+--   begin-sound, begin-state       at the start of a text the reader is sound, and stands for the machine's start
 --   Turns o T t          the reading o of a text goes on in t where the turn T ends, with its events, or stops there with its refusal
 --   turn-right           a turn of the code is so for the machine
 --
