@@ -1,6 +1,7 @@
 -- Character data, comments and characters of several bytes, byte by byte.
 --
 --   wide-right, char-right        the first byte of a character of several bytes, and another
+--   back-is, innerOf              the state that the reader comes back to; a place that is inside
 --   around-right                  around the document element
 --   data-right, bracket-right, brackets-right        character data, by the ']' at its end
 --   note-right, dash-right, dashes-right, bang-right        a comment, from its '<!' on

@@ -2,6 +2,7 @@
 --
 --   same-turned, same-lengths      names compared the other way round, and names of other lengths
 --   doubled-last                   the last attribute looked at last
+--   named-is                       one attribute's name compared
 --   doubled-is                     what the code asks is what the machine asks
 --
 -- Assumes nothing.

@@ -1,5 +1,7 @@
 -- The end of an element, byte by byte.
 --
+--   slot-after, slot-inner      the slot of what was closed;  word-at: after some bytes of a word
+--   other-class, other-byte     a byte of a class is in none that is apart from it, and is no byte outside it
 --   slash-right       after the '/' of an empty tag
 --   closed-right      an end tag's '>'
 --   ended-right       after its name and a blank;  end-right: in its name, and right after it

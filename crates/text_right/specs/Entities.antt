@@ -2,6 +2,8 @@
 --
 --   spent rs              the first row is spelled out
 --   entityTest            what is left of the entities after one byte more, as the code says it
+--   settle-spent          rows that are spelled out lead on;  chosen-true, chosen-false: what holds of a choice
+--   entity-passes         the test passes wherever the reader can stand
 --   amper-right           after '&', and in an entity
 --
 -- Assumes nothing.

@@ -1,11 +1,12 @@
 -- Characters of several bytes: what is left of the rows of Unicode's table is what the forms say.
 --
---   sameRows           two tables of rows are the same, as a test
+--   sameClass, sameRow, sameRows      two classes, rows, tables of rows are the same, as a test;  same-rows: they are
 --   upTo k f           the test f passes below k;  below: so at a number below k
 --   nextRows x         what is left after a byte, by what the code says is left
+--   leadTest, followTest      what is asked of each byte
 --   lead-rows          after the first byte of a character;  form-rows: after another
 --   lead-most, follow-most      the forms' numbers
---   form-waits         a form waits for a byte
+--   form-waits         a form waits for a byte;  settle-waits: the machine goes on in rows that wait
 --
 -- Assumes nothing.
 use Prim.Native.Nat.{ℕ, zero, suc, _≤_, _<_}

@@ -3,11 +3,12 @@
 --   base-is                       where a slot begins
 --   Out i s                       the byte i is not one of the name in slot s, or of its length
 --   name-kept, names-kept, place-kept, atts-kept, begun-kept      names that stay, in a slot, below a slot, of open elements, of attributes, of a part
---   length-most, length-measured  a name's length
+--   length-most, length-kept, length-measured      a name's length
 --   begun-more                    one byte more of a name
 --   measured-is                   a name that is whole now
---   kept-set, kept-more, kept-less      what holds of the room goes on to hold
---   names-length, name-length, begun-length      how many names, and how long they are
+--   open-is                       how many elements are open
+--   kept-set, kept-more, kept-less, kept-none      what holds of the room goes on to hold
+--   names-length, atts-length, begun-length      how many names, and how long they are
 --
 -- Assumes nothing.
 use Prim.Native.Nat.{ℕ, zero, suc, _+_, _*_, _-_, _≤_, _<_}

@@ -19,3 +19,5 @@ pub mod Quiet
 pub mod Loops
 pub mod Walked
 pub mod Turned
+pub mod Numbered
+pub mod Below

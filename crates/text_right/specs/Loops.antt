@@ -2,6 +2,7 @@
 --
 --   noted r g z n         the reader with n bytes read, whatever was given and refused
 --   Walks r R t at w      a part of t as long as w says is quiet, and takes the reader and its room to where w says
+--   stays                 no byte is gone over
 --   skips-walk, copies-walk, agrees-walk      the three loops, by what one byte does
 --   none-walk             a mode without a loop
 --

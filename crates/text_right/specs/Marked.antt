@@ -1,7 +1,8 @@
 -- The table of the bytes' marks, and what each mark means.
 --
---   marksTable         the code's constant MARKS
+--   marksTable         the table that the code has (crate chars, Table), under a shut name;  table-is: it is that
 --   every f i l        the test f passes at each place of l, counted from i, and its entry;  at-each: so at a place
+--   same a b           two answers are the same, as a test;  same-is: they are
 --   agrees c m         the mark m is in the table exactly at the bytes of the class c;  mark-is: so for every byte
 --   plain-mark, double-mark, single-mark, dash-mark, name-mark, start-mark, blank-mark      the seven marks
 --   beyond-mark        a byte of 128 or more
@@ -21,26 +22,15 @@ use Rattle.xml.specs.Class.{Class, inClass}
 use Rattle.xml.specs.Class.Laws.{and-l, and-r}
 use Rattle.xml.specs.Chars.{blank, nameStart, nameChar, beyond, noDash, plain, unquoted}
 use Rattle.chars.specs.Marks.{marked}
+use Rattle.chars.specs.Table
 
+-- shut, so that it is not written out wherever it stands
 unfoldable pub marksTable : List ℕ
-marksTable =
-    0 ∷ 0 ∷ 0 ∷ 0 ∷ 0 ∷ 0 ∷ 0 ∷ 0 ∷ 0 ∷ 79 ∷ 79 ∷ 0 ∷ 0 ∷ 79 ∷ 0 ∷ 0
-    ∷ 0 ∷ 0 ∷ 0 ∷ 0 ∷ 0 ∷ 0 ∷ 0 ∷ 0 ∷ 0 ∷ 0 ∷ 0 ∷ 0 ∷ 0 ∷ 0 ∷ 0 ∷ 0
-    ∷ 79 ∷ 15 ∷ 13 ∷ 15 ∷ 15 ∷ 15 ∷ 8 ∷ 11 ∷ 15 ∷ 15 ∷ 15 ∷ 15 ∷ 15 ∷ 23 ∷ 31 ∷ 15
-    ∷ 31 ∷ 31 ∷ 31 ∷ 31 ∷ 31 ∷ 31 ∷ 31 ∷ 31 ∷ 31 ∷ 31 ∷ 63 ∷ 15 ∷ 8 ∷ 15 ∷ 14 ∷ 15
-    ∷ 15 ∷ 63 ∷ 63 ∷ 63 ∷ 63 ∷ 63 ∷ 63 ∷ 63 ∷ 63 ∷ 63 ∷ 63 ∷ 63 ∷ 63 ∷ 63 ∷ 63 ∷ 63
-    ∷ 63 ∷ 63 ∷ 63 ∷ 63 ∷ 63 ∷ 63 ∷ 63 ∷ 63 ∷ 63 ∷ 63 ∷ 63 ∷ 15 ∷ 15 ∷ 14 ∷ 15 ∷ 63
-    ∷ 15 ∷ 63 ∷ 63 ∷ 63 ∷ 63 ∷ 63 ∷ 63 ∷ 63 ∷ 63 ∷ 63 ∷ 63 ∷ 63 ∷ 63 ∷ 63 ∷ 63 ∷ 63
-    ∷ 63 ∷ 63 ∷ 63 ∷ 63 ∷ 63 ∷ 63 ∷ 63 ∷ 63 ∷ 63 ∷ 63 ∷ 63 ∷ 15 ∷ 15 ∷ 15 ∷ 15 ∷ 15
-    ∷ 0 ∷ 0 ∷ 0 ∷ 0 ∷ 0 ∷ 0 ∷ 0 ∷ 0 ∷ 0 ∷ 0 ∷ 0 ∷ 0 ∷ 0 ∷ 0 ∷ 0 ∷ 0
-    ∷ 0 ∷ 0 ∷ 0 ∷ 0 ∷ 0 ∷ 0 ∷ 0 ∷ 0 ∷ 0 ∷ 0 ∷ 0 ∷ 0 ∷ 0 ∷ 0 ∷ 0 ∷ 0
-    ∷ 0 ∷ 0 ∷ 0 ∷ 0 ∷ 0 ∷ 0 ∷ 0 ∷ 0 ∷ 0 ∷ 0 ∷ 0 ∷ 0 ∷ 0 ∷ 0 ∷ 0 ∷ 0
-    ∷ 0 ∷ 0 ∷ 0 ∷ 0 ∷ 0 ∷ 0 ∷ 0 ∷ 0 ∷ 0 ∷ 0 ∷ 0 ∷ 0 ∷ 0 ∷ 0 ∷ 0 ∷ 0
-    ∷ 0 ∷ 0 ∷ 0 ∷ 0 ∷ 0 ∷ 0 ∷ 0 ∷ 0 ∷ 0 ∷ 0 ∷ 0 ∷ 0 ∷ 0 ∷ 0 ∷ 0 ∷ 0
-    ∷ 0 ∷ 0 ∷ 0 ∷ 0 ∷ 0 ∷ 0 ∷ 0 ∷ 0 ∷ 0 ∷ 0 ∷ 0 ∷ 0 ∷ 0 ∷ 0 ∷ 0 ∷ 0
-    ∷ 0 ∷ 0 ∷ 0 ∷ 0 ∷ 0 ∷ 0 ∷ 0 ∷ 0 ∷ 0 ∷ 0 ∷ 0 ∷ 0 ∷ 0 ∷ 0 ∷ 0 ∷ 0
-    ∷ 0 ∷ 0 ∷ 0 ∷ 0 ∷ 0 ∷ 0 ∷ 0 ∷ 0 ∷ 0 ∷ 0 ∷ 0 ∷ 0 ∷ 0 ∷ 0 ∷ 0 ∷ 0
-    ∷ []
+marksTable = Table.marksTable
+
+pub table-is : marksTable ≡ Table.marksTable
+unfolding marksTable
+table-is = refl
 
 unfoldable pub every : (ℕ → ℕ → Bool) → ℕ → List ℕ → Bool
 every f i [] = true

@@ -1,6 +1,7 @@
 -- The first bytes of markup.
 --
 --   check-yes, check-no      what is checked, by the test
+--   one-fits                 a name of one byte is short enough
 --   begun-right              the first byte of an element's name
 --   slashed-right            the '/' of an end tag
 --   markup-right             after '<';  first-right: after '<' at the very start of the text

@@ -1,5 +1,6 @@
 -- The prolog, byte by byte, but for the parts of the XML declaration.
 --
+--   none-said, some-said                  the parts by their numbers
 --   outset-right                          blanks and '<' before anything else
 --   start-right, mark-right, fresh-right  the start of the text; the byte order mark; after it
 --   xml-right, declared-right             '<?xml'; after it

@@ -1,6 +1,7 @@
 -- Bytes that give no events, one after the other.
 --
---   Bytes t                  every number of t is a byte
+--   Bytes t                  every number of t is a byte;  first-byte, later-bytes: the first is, and the others are
+--   given-none               nothing given before
 --   still r                  the reader where it stands, with nothing given and not refused;  fits-still: it fits its mode as before
 --   Quiet r R u x S          the bytes u take the reader r and the room R to x and S, and none of them gives an event or is refused
 --   quiet-run, quiet-sound   so does the machine;  what holds of a reader and its room that calls lead to goes on to hold

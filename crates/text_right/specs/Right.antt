@@ -2,6 +2,7 @@
 --
 --   prolog-right      in a mode of the prolog;  in-right: in any mode
 --   tick-right        for a reader and a room that calls lead to, and any byte
+--   next, room        the reader and its room after the byte
 --   tick-goes, tick-stops      so, as equations: where the code goes on, and where it refuses;  tick-sound: what it goes on with is sound
 --
 -- Assumes nothing.

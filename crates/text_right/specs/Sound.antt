@@ -1,11 +1,13 @@
 -- What holds of a reader and its room that calls lead to.
 --
 --   Inner p, Outer p, Spot p      the place p is inside the document element, is not, or is any
+--   openAt p                      how many elements are open at the place p
 --   Kept R p                      the room is long enough, and the slots below the place p hold names
 --   InTag R p k, InAtt R p k      a tag's name is whole, and k attributes; and the name of one more
 --   Back R p k m                  the mode m is one to which the reader comes back
 --   EntityAt row n                n bytes of the entity at `row` can have been read, and it is the first row that begins so
 --   ValueAt row n                 n bytes of the value `row` of the XML declaration can have been read
+--   entityOk, valueOk, nameOk     these as tests;  entity-none: nothing was read
 --   PartAt k, SaidAt k            k is one of its parts; or none
 --   NameAt row n                  n bytes of the name of the part `row` can have been read, and some are left
 --   FitsIn p r                    the reader fits the mode p of the prolog;  Fits R r m: the mode m
@@ -40,7 +42,6 @@ pub data Spot (p : ℕ) : Type 0 where
   outer : Outer p → Spot p
   inner : Inner p → Spot p
 
--- how many elements are open
 unfoldable pub openAt : ℕ → ℕ
 openAt p = when (eqb p afterPlace) 0 p
 

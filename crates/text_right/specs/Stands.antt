@@ -7,8 +7,11 @@
 --   valueLeft row n q            what is left of the value `row` in the quotes q after n bytes, as rows
 --   formRows f                   what is left of a character by its form
 --   entityLeft row n             what is left of the entities after the first n bytes of the entity at `row`
+--   derives w rs                 what is left of some rows after the bytes w
+--   prologState, endState, amperState, bangState       the states in some modes
 --   backState, stateIn           the state in a mode to which the reader comes back, and in any;  stateOf r R: in the reader's own
---   evsOf r R                    the events that the reader gives
+--   slotOf p                     the slot of what was closed, by the place after it
+--   evsIn, evsOf r R             the events that the reader gives
 --
 -- Assumes nothing. NOT here: that each byte leads from state to state (Right).
 use Prim.Native.Nat.{ℕ, zero, suc, _+_, _*_, _-_}
@@ -166,7 +169,6 @@ module _ (R : List ℕ) (back : Mode) (place count row n : ℕ) where
 abbrev pub stateOf : Reader → List ℕ → State
 stateOf r R = stateIn R (r .back) (r .place) (r .count) (r .row) (r .n) (r .mode)
 
--- the slot of the element that was closed, by the place after it
 unfoldable pub slotOf : ℕ → ℕ
 slotOf p = when (eqb p afterPlace) 0 p
 

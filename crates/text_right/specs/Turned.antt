@@ -1,11 +1,11 @@
 -- A turn, the bytes that a loop goes over and the one after them, and where a text begins.
 --
---   begin-sound          at the start of a text the reader is sound, and stands for the machine's start
+--   begin-sound, begin-state       at the start of a text the reader is sound, and stands for the machine's start
 --   Turns o T t          the reading o of a text goes on in t where the turn T ends, with its events, or stops there with its refusal
 --   turn-right           a turn of the code is so for the machine
 --
 -- Assumes nothing.
-use Prim.Native.Nat.{ℕ, suc, _+_, _-_, _≤_, _<_}
+use Prim.Native.Nat.{ℕ, suc, _+_, _-_, _<_}
 use native.Mathlib.Omega.{arith}
 use native.Mathlib.Numerals.{add-one}
 use mathlib.Core.Path.{_≡_, refl, sym, ap, _∙_, subst}
@@ -15,7 +15,7 @@ use lib.ListN.{length, getD, drop, length-drop}
 use lib.Seq.{drop-cons, drop-drop, getD-drop}
 use borrow.Author.Tests.{eq-eqb, ne-eqb, leb-false}
 use Rattle.choice.specs.When.{when-known, when-true, when-false}
-use Rattle.xml.specs.Machine.{State, step, Result, stopped, stands, given, next, run}
+use Rattle.xml.specs.Machine.{State, step, Result, stopped, given, next, run}
 use Rattle.xml.specs.Limited.{bounds}
 use Rattle.modes.specs.declared.Mode.the-variants as mode
 use Rattle.modes.specs.declared.Prolog.the-variants as prolog

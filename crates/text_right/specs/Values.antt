@@ -2,6 +2,7 @@
 --
 --   moded r m             the reader in the mode m
 --   opened-is, more-atts  the place inside one more element, and the attributes with one more
+--   in-more, amper-first  a tag with one attribute more; the state right after '&'
 --   close-right           the '>' or '/' of a tag
 --   tagged-right          after a value;  equals-right, value-right: after an attribute's name, and after its '='
 --   quoted-right          in a value;  double-right, single-right: by its quotes
