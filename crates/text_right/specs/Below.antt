@@ -8,13 +8,12 @@
 use Prim.Native.Nat.{ℕ, _+_, _*_, _≤_, _<_}
 use native.Mathlib.Omega.{arith}
 use mathlib.Core.Path.{_≡_, refl, ap₂}
-use mathlib.Core.Bool.{Bool, true, false}
 use mathlib.Core.List.{List}
 use lib.Dec.{leb}
 use lib.ListN.{getD, set}
 use lib.Seq.{getD-set-other}
 use borrow.Author.Tests.{leb-false}
-use Rattle.choice.specs.When.{when, when-either, when-known}
+use Rattle.choice.specs.When.{when-either, when-known}
 use Rattle.meaning.specs.Limits.{depthLimit}
 use Rattle.meaning.specs.Limits.Laws.{depth-is}
 use Rattle.xml.specs.Bounds.{attributeLimit}
@@ -23,10 +22,10 @@ use Rattle.slots.specs.Slots.{attributeSlot, baseOf, numberIn}
 use Rattle.modes.specs.declared.Mode.{Mode}
 use Rattle.modes.specs.declared.Mode.the-variants as mode
 use Rattle.modes.specs.declared.Reader.{Reader}
-use Rattle.tags.specs.Markup.{Ticked, kept, begun, markupTick, firstTick}
+use Rattle.tags.specs.Markup.{Ticked, begun, markupTick, firstTick}
 use Rattle.tags.specs.Tag.{nameByte, tagTick, gapTick, attBegun, attTick, namedTick}
 use Rattle.tick.specs.Tick.{tickIn, tick}
-use Rattle.text_right.specs.Sound.{InTag, Back, Fits, Sound, Spot, Outer, Inner}
+use Rattle.text_right.specs.Sound.{Back, Fits, Sound}
 use Rattle.text_right.specs.Frames.{base-is}
 
 pub record Same (R S : List ℕ) (p : ℕ) : Type 0 where
@@ -66,10 +65,10 @@ module _ (M : List ℕ) (r : Reader) (b : ℕ) (R : List ℕ) where
       when-either To _ _ _ (unchanged R _)
       (when-known To (leb depthLimit (r .place)) _ _ (λ e. unchanged R _)
       (λ e.
-        let h : r .place < depthLimit = leb-false _ _ e in
-        let d = depth-is in
-        let u = base-is (r .place) (omega arith) in
-        written R (r .place) (baseOf (r .place) + 0) b (omega arith)))
+      let h : r .place < depthLimit = leb-false _ _ e in
+      let d = depth-is in
+      let u = base-is (r .place) (omega arith) in
+      written R (r .place) (baseOf (r .place) + 0) b (omega arith)))
 
   markup-below : To (markupTick M r b R)
   unfolding markupTick To
@@ -90,10 +89,10 @@ module _ (M : List ℕ) (r : Reader) (b : ℕ) (R : List ℕ) where
       when-either To _ _ _
       (when-known To (leb attributeLimit (r .count)) _ _ (λ e. unchanged R _)
       (λ e.
-        let h : r .count < attributeLimit = leb-false _ _ e in
-        let a = attribute-limit-is in
-        let u = base-is (attributeSlot + r .count) (omega arith) in
-        written R (r .place) (baseOf (attributeSlot + r .count) + 0) b (omega arith)))
+      let h : r .count < attributeLimit = leb-false _ _ e in
+      let a = attribute-limit-is in
+      let u = base-is (attributeSlot + r .count) (omega arith) in
+      written R (r .place) (baseOf (attributeSlot + r .count) + 0) b (omega arith)))
       (when-either To _ _ _ (unchanged R _) (when-either To _ _ _ (unchanged R _) (unchanged R _)))
 
   named-below : (m : Mode) → r .place < 256 → r .count < 16 → To (namedTick r R m)
