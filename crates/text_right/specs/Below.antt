@@ -2,31 +2,35 @@
 --
 --   Same R S p           the rooms R and S agree in the slots below p
 --   tick-below           so do the rooms before and after a byte, below the place before it
---   number-same          the number in a slot below stays
+--   number-same, name-same      the number and the name in a slot below stay
+--   copied-below, walked-below      so do the rooms before and after a loop
 --
 -- Assumes nothing.
 use Prim.Native.Nat.{ℕ, _+_, _*_, _≤_, _<_}
 use native.Mathlib.Omega.{arith}
-use mathlib.Core.Path.{_≡_, refl, ap₂}
-use mathlib.Core.List.{List}
-use lib.Dec.{leb}
-use lib.ListN.{getD, set}
-use lib.Seq.{getD-set-other}
+use mathlib.Core.Path.{_≡_, refl, sym, ap, ap₂, _∙_}
+use mathlib.Core.List.{List, [], _∷_}
+use lib.Dec.{leb, ltb}
+use lib.ListN.{length, getD, set, take, drop, length-take, length-drop}
+use lib.Seq.{getD-set-other, getD-take, getD-drop, ext-getD}
 use borrow.Author.Tests.{leb-false}
-use Rattle.choice.specs.When.{when-either, when-known}
+use Rattle.choice.specs.When.{when, when-either, when-known}
 use Rattle.meaning.specs.Limits.{depthLimit}
 use Rattle.meaning.specs.Limits.Laws.{depth-is}
 use Rattle.xml.specs.Bounds.{attributeLimit}
 use Rattle.xml.specs.Bounds.Laws.{attribute-limit-is}
-use Rattle.slots.specs.Slots.{attributeSlot, baseOf, numberIn}
+use Rattle.slots.specs.Slots.{attributeSlot, baseOf, lengthIn, nameIn, numberIn}
+use Rattle.slots.specs.Copied.{Copied, copied, nameMark}
+use Rattle.chars.specs.Marks.{marked}
 use Rattle.modes.specs.declared.Mode.{Mode}
 use Rattle.modes.specs.declared.Mode.the-variants as mode
 use Rattle.modes.specs.declared.Reader.{Reader}
 use Rattle.tags.specs.Markup.{Ticked, begun, markupTick, firstTick}
 use Rattle.tags.specs.Tag.{nameByte, tagTick, gapTick, attBegun, attTick, namedTick}
 use Rattle.tick.specs.Tick.{tickIn, tick}
+use Rattle.walk.specs.Walk.{paceIn, paceOf, walkedBy, walked}
 use Rattle.text_right.specs.Sound.{Back, Fits, Sound}
-use Rattle.text_right.specs.Frames.{base-is}
+use Rattle.text_right.specs.Frames.{base-is, length-most}
 
 pub record Same (R S : List ℕ) (p : ℕ) : Type 0 where
   pub agree : (i : ℕ) → i < p * 68 → getD S i 0 ≡ getD R i 0
@@ -152,3 +156,79 @@ module _ (R S : List ℕ) (p s : ℕ) (h : Same R S p) (l : s < p) (m : p ≤ 25
   number-same =
       let e = base-is s (omega arith) in
       ap₂ (λ x y. x * 256 + y) (h .agree (baseOf s + 65) (omega arith)) (h .agree (baseOf s + 66) (omega arith))
+
+  module _ (long : length S ≡ length R) where
+    length-same : lengthIn S s ≡ lengthIn R s
+    unfolding lengthIn
+    length-same = let e = base-is s (omega arith) in ap (λ x. when (ltb 64 x) 64 x) (h .agree (baseOf s + 64) (omega arith))
+
+    pub name-same : nameIn S s ≡ nameIn R s
+    unfolding nameIn
+    name-same =
+        let e = base-is s (omega arith) in
+        let most = length-most R s in
+        ap (λ n. take n (drop (baseOf s) S)) length-same
+        ∙ ext-getD 0 (take (lengthIn R s) (drop (baseOf s) S)) (take (lengthIn R s) (drop (baseOf s) R)) (simp (length-take, length-drop, long))
+        (λ i k.
+        let k′ : i < length (take (lengthIn R s) (drop (baseOf s) S)) = k in
+        let u = length-take (lengthIn R s) (drop (baseOf s) S) in
+        let v : i < lengthIn R s = omega arith in
+        getD-take (lengthIn R s) (drop (baseOf s) S) i 0 v
+        ∙ getD-drop (baseOf s) S i 0
+        ∙ h .agree (baseOf s + i) (omega arith)
+        ∙ sym (getD-take (lengthIn R s) (drop (baseOf s) R) i 0 v ∙ getD-drop (baseOf s) R i 0))
+
+-- one change after another
+same-trans : {R S T : List ℕ} {p : ℕ} → Same R S p → Same S T p → Same R T p
+same-trans h k = record { agree = λ i l. k .agree i l ∙ h .agree i l }
+
+pub copied-below : (M R : List ℕ) (s n at : ℕ) (t : List ℕ) (p : ℕ) → p * 68 ≤ baseOf s → Same R (copied M R s n at t .room) p
+unfolding copied
+copied-below M R s n at [] p l = unchanged R p
+copied-below M R s n at (b ∷ t) p l =
+    when-either (λ (w : Copied). Same R (w .room) p) (marked M b nameMark) _ _
+    (when-either (λ (w : Copied). Same R (w .room) p) (leb 64 n) _ _ (unchanged R p)
+    (same-trans (written R p (baseOf s + n) b (omega arith)) (copied-below M (set R (baseOf s + n) b) s (n + 1) (at + 1) t p l)))
+    (unchanged R p)
+
+module _ (M : List ℕ) (r : Reader) (at : ℕ) (t R : List ℕ) where
+  On : Mode → Type 0
+  On m = Same R (walkedBy (paceIn m r) M r at t R .room) (r .place)
+
+  back-walked : {m : Mode} → Back R (r .place) (r .count) m → On m
+  unfolding On walkedBy paceIn
+  back-walked (Back.data′ h) = unchanged R _
+  back-walked (Back.note h) = unchanged R _
+  back-walked (Back.double h) = unchanged R _
+  back-walked (Back.single h) = unchanged R _
+
+  in-walked : {m : Mode} → Fits R r m → On m
+  unfolding On walkedBy paceIn
+  in-walked (Fits.prolog′ h k) = unchanged R _
+  in-walked (Fits.first h) = unchanged R _
+  in-walked (Fits.around h) = unchanged R _
+  in-walked (Fits.back h) = back-walked h
+  in-walked (Fits.bracket h) = unchanged R _
+  in-walked (Fits.brackets h) = unchanged R _
+  in-walked (Fits.markup h) = unchanged R _
+  in-walked (Fits.bang h k) = unchanged R _
+  in-walked (Fits.dash h) = unchanged R _
+  in-walked (Fits.dashes h) = unchanged R _
+  in-walked (Fits.amper h k) = unchanged R _
+  in-walked (Fits.char h k i) = unchanged R _
+  in-walked (Fits.tag d k i) = let e = base-is (r .place) (omega arith) in copied-below M R (r .place) (r .n) at t (r .place) (omega arith)
+  in-walked (Fits.tagged h) = unchanged R _
+  in-walked (Fits.gap h) = unchanged R _
+  in-walked (Fits.att h k i j) =
+      let d = h .deep in
+      let e = base-is (attributeSlot + r .count) (omega arith) in
+      copied-below M R (attributeSlot + r .count) (r .n) at t (r .place) (omega arith)
+  in-walked (Fits.equals h) = unchanged R _
+  in-walked (Fits.value h) = unchanged R _
+  in-walked (Fits.slash h k) = unchanged R _
+  in-walked (Fits.end h) = unchanged R _
+  in-walked (Fits.ended h) = unchanged R _
+
+  pub walked-below : Sound r R → Same R (walked M r at t R .room) (r .place)
+  unfolding walked paceOf On
+  walked-below s = in-walked (s .fits)
