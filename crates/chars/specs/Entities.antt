@@ -5,7 +5,7 @@
 --   entityFrom T like n b row k  the first such row from row on, of the k there; noEntity for none
 --   entityRow like n b           the first such row of all
 --
--- Assumes nothing. NOT here: that these are the grammar's (Entities.Rows).
+-- Assumes nothing. NOT here: that these are the grammar's (crate text_right, Entities).
 pub mod Laws
 use Prim.Native.Nat.{ℕ, zero, suc, _+_, _*_}
 use mathlib.Core.Bool.{Bool, false}

@@ -9,7 +9,7 @@
 --   lowestIn f, highestIn f     the least and the greatest byte that the form f goes on with
 --   follows f b                 what is left after the byte b: a form, `whole`, or 0 where f does not go on so
 --
--- Assumes nothing. NOT here: that these are the rows of Unicode's table (Forms.Rows).
+-- Assumes nothing. NOT here: that these are the rows of Unicode's table (crate text_right, Forms).
 pub mod Laws
 use Prim.Native.Nat.{ℕ}
 use lib.Dec.{eqb, leb, ltb}

@@ -10,9 +10,7 @@ ghost use Rattle.slots.specs.Slots.{roomNeeded};
 ghost use Rattle.chains.specs.Index.{indexWords};
 ghost use Rattle.reader.specs.Fed.{freshReader, moreToRead, readOn};
 
-// How many bytes of room a feed asks for, and of output: the two events that one byte can give.
-pub const ROOM: usize = 18496;
-
+// How many bytes of output another byte of text asks for: the two events that one byte can give.
 pub const OUTPUT: usize = 16;
 
 // What a feed came to: how many bytes were taken, how many bytes of event records were written, and the refusal, or 0.
