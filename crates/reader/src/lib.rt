@@ -1,4 +1,8 @@
 // The reader of XML text: text in, event records out. It takes text in blocks cut anywhere.
+use limits::READER_STOPPED;
+use limits::SCANT;
+use limits::UNENDED;
+use modes::AFTER;
 use modes::Gives;
 use modes::Mode;
 use modes::Prolog;
@@ -9,6 +13,7 @@ ghost use lib.ListN.{length};
 ghost use Rattle.slots.specs.Slots.{roomNeeded};
 ghost use Rattle.chains.specs.Index.{indexWords};
 ghost use Rattle.reader.specs.Fed.{freshReader, moreToRead, readOn};
+ghost use Rattle.reader.specs.Feed.{tooScant, feedAnswer, wholeAt, finishAnswer};
 
 // How many bytes of output another byte of text asks for: the two events that one byte can give.
 pub const OUTPUT: usize = 16;
@@ -18,6 +23,12 @@ pub struct Fed {
     pub reader: Reader,
     pub taken: usize,
     pub written: usize,
+    pub refusal: u8,
+}
+
+// What the end of a text came to: the reader, stopped where the text is not a whole document, and the refusal, or 0.
+pub struct Finished {
+    pub reader: Reader,
     pub refusal: u8,
 }
 
@@ -61,8 +72,9 @@ fn read_on(
     out: &mut [u8],
 ) -> Fed
     requires { ⌜ (length (now room) ≡ roomNeeded) × (indexWords ≤ length (now index)) ⌝ }
-    ensures { λ r. ⌜ record { reader = r .reader; at = r .taken; room = now (room .exit); out = now (out .exit); written = r .written }
-        ≡ readOn (now (names .entry)) (now (index .entry)) (now (text .entry)) reader (now (room .entry)) (now (out .entry)) ⌝ }
+    ensures { λ r. ⌜ (record { reader = r .reader; at = r .taken; room = now (room .exit); out = now (out .exit); written = r .written }
+        ≡ readOn (now (names .entry)) (now (index .entry)) (now (text .entry)) reader (now (room .entry)) (now (out .entry)))
+        × (r .refusal ≡ r .reader .refusal) ⌝ }
 {
     let marks = chars::marks::MARKS;
     let mut r = reader;
@@ -79,5 +91,106 @@ fn read_on(
         taken: at,
         written,
         refusal: r.refusal,
+    }
+}
+
+// Whether less is lent than a feed needs: of room, of index, or of output.
+fn scant(room: usize, index: usize, out: usize) -> bool
+    ensures { λ r. ⌜ r ≡ tooScant room index out ⌝ }
+{
+    if room < slots::ROOM {
+        return true;
+    }
+    if index < names::INDEX {
+        return true;
+    }
+    out < OUTPUT
+}
+
+// Reads a block of text. `names` and `index` are the list of names and its index, as `names::build` made it. The room is the reader's own: it is lent again to
+// the next feed as this one left it; longer room is fine, and its bytes past the needed ones are never touched. Stops at the block's end, at a byte that is
+// refused, or before a byte for whose events the output may have no room: then the rest of the block is fed with an output that is free again.
+pub fn feed(
+    reader: Reader,
+    text: &[u8],
+    names: &[u8],
+    index: &[u32],
+    room: &mut [u8],
+    out: &mut [u8],
+) -> Fed
+    ensures { λ r. ⌜ record { reader = r .reader; taken = r .taken; room = now (room .exit); out = now (out .exit); written = r .written; refusal = r .refusal }
+        ≡ feedAnswer (now (names .entry)) (now (index .entry)) (now (text .entry)) reader (now (room .entry)) (now (out .entry)) ⌝ }
+{
+    if scant(room.len(), index.len(), out.len()) {
+        return Fed {
+            reader,
+            taken: 0,
+            written: 0,
+            refusal: SCANT,
+        };
+    }
+    if reader.refusal != 0 {
+        return Fed {
+            reader,
+            taken: 0,
+            written: 0,
+            refusal: READER_STOPPED,
+        };
+    }
+    read_on(reader, text, names, index, &mut room[..slots::ROOM], out)
+}
+
+// Whether a reader at this place and in this mode has read a whole document: the document element, and then nothing that is not whole.
+fn whole(place: u16, mode: Mode) -> bool
+    ensures { λ r. ⌜ r ≡ wholeAt place mode ⌝ }
+{
+    if place != AFTER {
+        return false;
+    }
+    match mode {
+        Mode::Prolog(_) => false,
+        Mode::First => false,
+        Mode::Around => true,
+        Mode::Data => false,
+        Mode::Bracket => false,
+        Mode::Brackets => false,
+        Mode::Markup => false,
+        Mode::Bang => false,
+        Mode::Note => false,
+        Mode::Dash => false,
+        Mode::Dashes => false,
+        Mode::Amper => false,
+        Mode::Char => false,
+        Mode::Tag => false,
+        Mode::Tagged => false,
+        Mode::Gap => false,
+        Mode::Att => false,
+        Mode::Equals => false,
+        Mode::Value => false,
+        Mode::Double => false,
+        Mode::Single => false,
+        Mode::Slash => false,
+        Mode::End => false,
+        Mode::Ended => false,
+    }
+}
+
+// The end of the text: no refusal where it is a whole document.
+pub fn finish(reader: Reader) -> Finished
+    ensures { λ r. ⌜ r ≡ finishAnswer reader ⌝ }
+{
+    if reader.refusal != 0 {
+        return Finished {
+            reader,
+            refusal: READER_STOPPED,
+        };
+    }
+    let mode = reader.mode;
+    if whole(reader.place, mode) {
+        return Finished { reader, refusal: 0 };
+    }
+    Finished {
+        reader: modes::refuse(reader, UNENDED),
+        refusal: UNENDED,
     }
 }

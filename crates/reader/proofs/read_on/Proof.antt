@@ -71,7 +71,7 @@ unfolding readOn
 returns c =
     let x = c .before .before in
     let a = x .before .before .before .before .before .before .args in
-    sym (left-done (a .names .now) (a .index .now) (a .text .now) _ _ (x .loop .inv .4) (sym (c .before .more .ensures) ∙ c .if1 .left))
+    (sym (left-done (a .names .now) (a .index .now) (a .text .now) _ _ (x .loop .inv .4) (sym (c .before .more .ensures) ∙ c .if1 .left)), refl)
 
 pub read-on-spec : {M : Type 1} → statement M
 read-on-spec =
