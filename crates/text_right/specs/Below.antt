@@ -179,7 +179,7 @@ module _ (R S : List ℕ) (p s : ℕ) (h : Same R S p) (l : s < p) (m : p ≤ 25
         ∙ sym (getD-take (lengthIn R s) (drop (baseOf s) R) i 0 v ∙ getD-drop (baseOf s) R i 0))
 
 -- one change after another
-same-trans : {R S T : List ℕ} {p : ℕ} → Same R S p → Same S T p → Same R T p
+pub same-trans : {R S T : List ℕ} {p : ℕ} → Same R S p → Same S T p → Same R T p
 same-trans h k = record { agree = λ i l. k .agree i l ∙ h .agree i l }
 
 pub copied-below : (M R : List ℕ) (s n at : ℕ) (t : List ℕ) (p : ℕ) → p * 68 ≤ baseOf s → Same R (copied M R s n at t .room) p

@@ -21,3 +21,5 @@ pub mod Walked
 pub mod Turned
 pub mod Numbered
 pub mod Below
+pub mod Placed
+pub mod Led

@@ -78,7 +78,7 @@ ticked-right s x t n l (Matches.stops e f) =
     ∙ ap (λ k. stopped [] (x .reader .refusal) (drop k t)) (sym z))
 
 module _ (r : Reader) (R t : List ℕ) (at : ℕ) (s : Sound r R) (bytes : Bytes t) where
-  part : Bytes (drop at t)
+  pub part : Bytes (drop at t)
   part =
       record {
         each =
