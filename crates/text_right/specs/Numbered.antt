@@ -1,6 +1,6 @@
 -- The number of a name, written beside it in its slot, changes no name.
 --
---   beside                    the two bytes of a number are none of any name
+--   beside, numbered-name     the two bytes of a number are none of any name
 --   numbered-names, numbered-place, numbered-kept      the names of the open elements stay, and what holds of the room
 --   numbered-state, numbered-sound      so do the reader's state and all that holds, in character data
 --
@@ -44,7 +44,7 @@ data-inner : {R : List ℕ} {r : Reader} → Fits R r mode.Data → Inner (r .pl
 data-inner (Fits.back (Back.data′ h)) = h
 
 module _ (R : List ℕ) (s x : ℕ) (ls : s < 272) where
-  numbered-name : (j : ℕ) → j < 272 → nameIn (numbered R s x) j ≡ nameIn R j
+  pub numbered-name : (j : ℕ) → j < 272 → nameIn (numbered R s x) j ≡ nameIn R j
   unfolding numbered
   numbered-name j lj =
       name-kept (set R (baseOf s + 65) (x / 256)) (baseOf s + 66) (x % 256) j (beside s j 66 ls lj (omega arith) (omega arith))

@@ -1,0 +1,4 @@
+pub mod Records
+pub mod Wrote
+pub mod Counted
+pub mod Emits
