@@ -2,3 +2,4 @@ pub mod Records
 pub mod Wrote
 pub mod Counted
 pub mod Emits
+pub mod Reached

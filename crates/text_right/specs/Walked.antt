@@ -1,7 +1,7 @@
 -- Some bytes of text at once: what a loop goes over is what the machine reads without an event.
 --
 --   walked-quiet         the bytes that the loop goes over are quiet, and take the reader and its room to where the loop says
---   walk-run             the machine reads the text from where the loop ends as from where it began
+--   walk-run             whatever comes then, the machine reads it from where the loop ends as after what the loop went over
 --   walk-sound           the reader and its room are sound then
 --
 -- Assumes nothing.
@@ -115,18 +115,10 @@ module _ (r : Reader) (R t : List ℕ) (at : ℕ) where
     walked-quiet = in-walks (s .fits)
 
     pub walk-run :
-        Bytes t
-        → run bounds t (stateOf r R)
-        ≡ run bounds (drop (walked marksTable r at t R .at - at) t) (stateOf (hereAfter r (walked marksTable r at t R)) (walked marksTable r at t R .room))
-    walk-run f =
-        let w = walked-quiet in
-        let x = walked marksTable r at t R in
-        let y = w .far in
-        let z : walked marksTable r at t R .at - at ≡ length (w .over) = omega arith in
-        ap (λ u. run bounds u (stateOf r R)) (w .split)
-        ∙ quiet-run (w .rest) s (front (w .over) (w .rest) (subst Bytes (w .split) f)) (w .quiet)
-        ∙ ap (λ u. run bounds u (stateOf (hereAfter r x) (x .room)))
-        (sym (ap (drop (x .at - at)) (w .split) ∙ ap (λ n. drop n (w .over ++ w .rest)) z ∙ drop-append-seam (w .over) (w .rest)))
+        Bytes t → (v : List ℕ)
+        → run bounds (walked-quiet .over ++ v) (stateOf r R)
+        ≡ run bounds v (stateOf (hereAfter r (walked marksTable r at t R)) (walked marksTable r at t R .room))
+    walk-run f v = let w = walked-quiet in quiet-run v s (front (w .over) (w .rest) (subst Bytes (w .split) f)) (w .quiet)
 
     pub walk-sound : Bytes t → Sound (hereAfter r (walked marksTable r at t R)) (walked marksTable r at t R .room)
     walk-sound f = let w = walked-quiet in quiet-sound s (front (w .over) (w .rest) (subst Bytes (w .split) f)) (w .quiet)
