@@ -3,3 +3,4 @@ pub mod Wrote
 pub mod Counted
 pub mod Emits
 pub mod Reached
+pub mod Calls

@@ -3,6 +3,7 @@
 --   Reached out g       where a feed has come: what came of the text from here on is what comes of it from the start (o), behind the events whose records are
 --                         written; or the byte here was refused
 --   reached-on            one turn more;  reached-for: some
+--   read-within           a feed stays in the text
 --   read-ended            no turn is left: the text ends, the byte here is refused, or the output has no room for what another byte can give
 --
 -- N and X are the list of names and its index, t is the text. Assumes nothing.
@@ -24,7 +25,7 @@ use Rattle.modes.specs.declared.Gives.the-variants as gives
 use Rattle.modes.specs.declared.Reader.{Reader}
 use Rattle.walk.specs.Turn.{Turned, turned}
 use Rattle.walk.specs.Within.{turned-within, turned-on}
-use Rattle.emit.specs.Emit.{Emitted, emitted}
+use Rattle.emit.specs.Emit.{Emitted, emittedBy, emitted}
 use Rattle.reader.specs.Fed.{Going, goneOn, advancedBy, advanced, goesOn, readFor}
 use Rattle.reader.specs.Fed.Laws.{More, more-is}
 use Rattle.text_right.specs.Stands.{stateOf, evsOf}
@@ -33,7 +34,7 @@ use Rattle.text_right.specs.Quiet.{Bytes}
 use Rattle.text_right.specs.Turned.{Turns, turn-right}
 use Rattle.text_right.specs.Below.{Same}
 use Rattle.text_right.specs.Placed.{Placed}
-use Rattle.text_right.specs.Led.{turn-placed, turn-below}
+use Rattle.text_right.specs.Led.{turn-placed, turn-below, turn-long}
 use Rattle.reader_right.specs.Records.{recordsIn, records-more}
 use Rattle.reader_right.specs.Wrote.{Wrote, wrote-long}
 use Rattle.reader_right.specs.Counted.{Counted}
@@ -75,6 +76,7 @@ module _ (N X t : List ℕ) (k : State) where
     stops :
         (es : List Ev) (b : ℕ) (w : List ℕ)
         → 0 < g .reader .refusal
+        → length (g .room) ≡ 18_496
         → drop (g .at) t ≡ b ∷ w
         → run bounds (take (g .at) t ++ (b ∷ [])) k ≡ stopped es (g .reader .refusal) (b ∷ [])
         → Wrote out (recordsIn (numberOf N X) es) (g .out) (g .written)
@@ -104,6 +106,13 @@ module _ (N X t : List ℕ) (k : State) where
         spare : g .written + 16 ≤ length out
         spare = omega (arith, more .room, wrote-long wrote, wrote .fits)
 
+        -- where a byte is refused the room is as the turn left it
+        still-long : 0 < T .reader .refusal → length (emitted N X (T .reader) (T .room) (g .out) (g .written) .room) ≡ 18_496
+        unfolding T emitted emittedBy
+        still-long z =
+            subst (λ h. length (emittedBy h N X (T .reader .place) (T .room) (g .out) (g .written) .room) ≡ 18_496) (sym (refused-none placed z))
+            (turn-long (g .reader) (g .room) t (g .at) ok bytes)
+
         -- the text up to where the turn ends
         taken : (v : List ℕ) → drop (g .at) t ≡ v ++ drop (T .at) t → take (T .at) t ≡ take (g .at) t ++ v
         unfolding T
@@ -129,7 +138,7 @@ module _ (N X t : List ℕ) (k : State) where
             (x .sound) (x .counted)
             (subst (λ bs. Wrote out bs (E .out) (E .written)) (sym (records-more f es (evsOf (T .reader) (T .room)))) (x .wrote))
         after-turn (Turns.stops v w b z h j r) =
-            Reached.stops es b w z j
+            Reached.stops es b w z (still-long z) j
             (ap (λ u. run bounds (u ++ (b ∷ [])) k) (taken v h)
             ∙ ap (λ u. run bounds u k) (append-assoc (take (g .at) t) v (b ∷ []))
             ∙ behind (v ++ (b ∷ []))
@@ -144,7 +153,7 @@ module _ (N X t : List ℕ) (k : State) where
 
     pub reached-on : (g : Going) → Reached out g → goesOn t g ≡ true → Reached out (advanced N X marksTable t g)
     reached-on g (Reached.on es z e ok numbers wrote) more = reached-turn g es e ok numbers wrote (more-is _ _ _ _ _ more)
-    reached-on g (Reached.stops es b w z j e wrote) more = absurd (omega (arith, more-is (g .reader .refusal) _ _ _ _ more .unrefused))
+    reached-on g (Reached.stops es b w z l j e wrote) more = absurd (omega (arith, more-is (g .reader .refusal) _ _ _ _ more .unrefused))
 
     pub reached-for : (n : ℕ) (g : Going) → Reached out g → Reached out (readFor n N X marksTable t g)
     unfolding readFor
@@ -159,6 +168,13 @@ module _ (N X t : List ℕ) where
       go : (b : Bool) → goesOn t g ≡ b → goesOn t g ≡ false
       go true e = absurd (h e)
       go false e = e
+
+  pub read-within : (k : ℕ) (g : Going) → g .at ≤ length t → readFor k N X marksTable t g .at ≤ length t
+  unfolding readFor advanced advancedBy
+  read-within zero g l = l
+  read-within (suc k) g l =
+      when-known (λ (z : Going). z .at ≤ length t) (goesOn t g) _ _
+      (λ e. read-within k (advanced N X marksTable t g) (turned-within marksTable (g .reader) t (g .at) (g .room) l .1)) (λ e. l)
 
   -- as many turns as there are bytes are enough
   pub read-ended :

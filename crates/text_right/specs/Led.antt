@@ -2,7 +2,7 @@
 --
 --   sound-deep           at most 256 elements are open
 --   turn-placed          the reader is placed by what the turn gives
---   turn-below           nothing changes in the slots of the elements that are open
+--   turn-below           nothing changes in the slots of the elements that are open;  turn-long: the room is as long as it was
 --
 -- Assumes nothing.
 use Prim.Native.Nat.{ℕ, _≤_, _<_}
@@ -25,6 +25,7 @@ use Rattle.text_right.specs.Quiet.{Bytes}
 use Rattle.text_right.specs.Walked.{walk-sound}
 use Rattle.text_right.specs.Turned.{part}
 use Rattle.text_right.specs.Below.{Same, same-trans, tick-below, walked-below}
+use Rattle.text_right.specs.Long.{tick-long}
 use Rattle.text_right.specs.Placed.{Placed, tick-placed, after-none}
 
 low-deep : (p : ℕ) → p ≤ 256 → openAt p ≤ 256
@@ -97,3 +98,10 @@ module _ (r : Reader) (R t : List ℕ) (at : ℕ) (s : Sound r R) (bytes : Bytes
       let over = walked-below marksTable r at (drop at t) R s in
       when-known (λ (T : Turned). Same R (T .room) (r .place)) (leb (length t) (w .at)) _ _ (λ e. over)
       (λ e. same-trans over (tick-below marksTable (hereAfter r w) (getD t (w .at) 0) (w .room) ok))
+
+  pub turn-long : length (turned marksTable r t at R .room) ≡ 18_496
+  unfolding turned turnedFrom tickedAt
+  turn-long =
+      let w = walked marksTable r at (drop at t) R in
+      when-known (λ (T : Turned). length (T .room) ≡ 18_496) (leb (length t) (w .at)) _ _ (λ e. ok .kept .long)
+      (λ e. tick-long marksTable (hereAfter r w) (getD t (w .at) 0) (w .room) ∙ ok .kept .long)

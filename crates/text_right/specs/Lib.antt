@@ -21,5 +21,6 @@ pub mod Walked
 pub mod Turned
 pub mod Numbered
 pub mod Below
+pub mod Long
 pub mod Placed
 pub mod Led
