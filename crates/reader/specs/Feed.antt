@@ -8,6 +8,8 @@
 --   aroundOnly m                   the mode m is that between two pieces of markup around the document element
 --   wholeAt p m                    at the place p, in the mode m, a whole document was read
 --   finishAnswer r                 the end of the text: 46 for a stopped reader, 0 for a whole document, else 44 and stopped
+--   BeginGives r, FeedGives .. c R′ out′, FinishGives r f      THE PROMISES of `begin`, `feed` and `finish`: what they answer, and the room and the output on
+--                                  return, are that
 --   feed-scant, feed-stopped, feed-read      a feed by its cases;  enough: what is known where it is not scant
 --
 -- Assumes nothing. NOT here: what is read (Fed), that it is the machine's run (crate text_right).
@@ -26,8 +28,9 @@ use Rattle.modes.specs.declared.Reader.{Reader}
 use Rattle.modes.specs.Moves.{refuseWith}
 use Rattle.slots.specs.Slots.{roomNeeded}
 use Rattle.chains.specs.Index.{indexWords}
+use Rattle.reader.specs.declared.Fed.{Fed}
 use Rattle.reader.specs.declared.Finished.{Finished}
-use Rattle.reader.specs.Fed.{Going, readOn}
+use Rattle.reader.specs.Fed.{Going, freshReader, readOn}
 
 pub record Came : Type 0 where
   pub reader : Reader
@@ -94,6 +97,17 @@ finishAnswer r =
     when (eqb (r .refusal) 0)
     (when (wholeAt (r .place) (r .mode)) (record { reader = r; refusal = 0 }) (record { reader = refuseWith r unended; refusal = unended }))
     (record { reader = r; refusal = readerStopped })
+
+-- what the reader's calls ensure
+abbrev pub BeginGives : Reader → Type 0
+BeginGives r = r ≡ freshReader
+
+abbrev pub FeedGives : List ℕ → List ℕ → List ℕ → Reader → List ℕ → List ℕ → Fed → List ℕ → List ℕ → Type 0
+FeedGives names x t r R out c R′ out′ =
+    record { reader = c .reader; taken = c .taken; room = R′; out = out′; written = c .written; refusal = c .refusal } ≡ feedAnswer names x t r R out
+
+abbrev pub FinishGives : Reader → Finished → Type 0
+FinishGives r f = f ≡ finishAnswer r
 
 -- by its cases
 module _ (names x t : List ℕ) (r : Reader) (R out : List ℕ) where

@@ -12,8 +12,8 @@ ghost use Prim.Native.Nat.{_≤_};
 ghost use lib.ListN.{length};
 ghost use Rattle.slots.specs.Slots.{roomNeeded};
 ghost use Rattle.chains.specs.Index.{indexWords};
-ghost use Rattle.reader.specs.Fed.{freshReader, moreToRead, readOn};
-ghost use Rattle.reader.specs.Feed.{tooScant, feedAnswer, wholeAt, finishAnswer};
+ghost use Rattle.reader.specs.Fed.{moreToRead, readOn};
+ghost use Rattle.reader.specs.Feed.{BeginGives, FeedGives, FinishGives, tooScant, wholeAt};
 
 // How many bytes of output another byte of text asks for: the two events that one byte can give.
 pub const OUTPUT: usize = 16;
@@ -34,7 +34,7 @@ pub struct Finished {
 
 // A reader at the start of a text.
 pub fn begin() -> Reader
-    ensures { λ r. ⌜ r ≡ freshReader ⌝ }
+    ensures { λ r. ⌜ BeginGives r ⌝ }
 {
     Reader {
         mode: Mode::Prolog(Prolog::Start),
@@ -118,8 +118,8 @@ pub fn feed(
     room: &mut [u8],
     out: &mut [u8],
 ) -> Fed
-    ensures { λ r. ⌜ record { reader = r .reader; taken = r .taken; room = now (room .exit); out = now (out .exit); written = r .written; refusal = r .refusal }
-        ≡ feedAnswer (now (names .entry)) (now (index .entry)) (now (text .entry)) reader (now (room .entry)) (now (out .entry)) ⌝ }
+    ensures { λ r. ⌜ FeedGives (now (names .entry)) (now (index .entry)) (now (text .entry)) reader (now (room .entry)) (now (out .entry)) r
+        (now (room .exit)) (now (out .exit)) ⌝ }
 {
     if scant(room.len(), index.len(), out.len()) {
         return Fed {
@@ -177,7 +177,7 @@ fn whole(place: u16, mode: Mode) -> bool
 
 // The end of the text: no refusal where it is a whole document.
 pub fn finish(reader: Reader) -> Finished
-    ensures { λ r. ⌜ r ≡ finishAnswer reader ⌝ }
+    ensures { λ r. ⌜ FinishGives reader r ⌝ }
 {
     if reader.refusal != 0 {
         return Finished {

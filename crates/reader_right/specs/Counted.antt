@@ -53,9 +53,9 @@ module _ (f : List ℕ → ℕ) where
         let b = base-is p (omega arith) in
         let apart : (j k : ℕ) → j < 68 → k < 68 → (baseOf s + j ≡ baseOf p + k → ⊥) = λ j k lj lk e. omega (arith, a, b, l) in
         let same : (j : ℕ) → j < 68 → getD (numbered R p x) (baseOf s + j) 0 ≡ getD R (baseOf s + j) 0 =
-            λ j lj.
-            getD-set-other (set R (baseOf p + 65) (x / 256)) (baseOf p + 66) (baseOf s + j) (x % 256) 0 (apart j 66 lj (omega arith))
-            ∙ getD-set-other R (baseOf p + 65) (baseOf s + j) (x / 256) 0 (apart j 65 lj (omega arith)) in
+        λ j lj.
+        getD-set-other (set R (baseOf p + 65) (x / 256)) (baseOf p + 66) (baseOf s + j) (x % 256) 0 (apart j 66 lj (omega arith))
+        ∙ getD-set-other R (baseOf p + 65) (baseOf s + j) (x / 256) 0 (apart j 65 lj (omega arith)) in
         ap₂ (λ u v. u * 256 + v) (same 65 (omega arith)) (same 66 (omega arith))
 
     -- the number of the name in slot p is put there

@@ -3,4 +3,5 @@ pub mod Wrote
 pub mod Counted
 pub mod Emits
 pub mod Reached
-pub mod Calls
+pub mod TextRead
+pub mod Ended

@@ -129,7 +129,7 @@ module _ (N X t : List ℕ) (k : State) where
         unfolding advancedBy given
         after-turn (Turns.on v z h r s) =
             let x =
-                emits N X (T .reader) (T .room) out (recordsIn f es) (g .out) (g .written) wrote s spare ok numbers below placed in
+            emits N X (T .reader) (T .room) out (recordsIn f es) (g .out) (g .written) wrote s spare ok numbers below placed in
             Reached.on (es ++ evsOf (T .reader) (T .room)) z
             (ap (λ u. run bounds u k) (taken v h)
             ∙ behind v

@@ -139,8 +139,8 @@ module _ (M : List ℕ) (r : Reader) (b : ℕ) (R : List ℕ) where
 
   in-placed : {m : Mode} → Fits R r m → In m
   unfolding
-    In tickIn around dataTick wideTick bangTick noteTick entityTick amperTick charTick begun slashedTick markupTick firstTick nameByte tagTick taggedTick attBegun
-    gapTick namedTick attTick equalsTick valueTick
+      In tickIn around dataTick wideTick bangTick noteTick entityTick amperTick charTick begun slashedTick markupTick firstTick nameByte tagTick taggedTick attBegun
+      gapTick namedTick attTick equalsTick valueTick
   in-placed (Fits.prolog′ {p = p} h k) = prolog-placed p
   in-placed (Fits.first h) = search placing depth 20
   in-placed (Fits.around h) = search placing depth 20

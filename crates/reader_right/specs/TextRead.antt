@@ -1,4 +1,4 @@
--- What calls of the reader come to: any number of them, on any blocks, with any output.
+-- A text that is read, and what a feed of more of it comes to.
 --
 --   TextRead N X t r R es     the text t is read whole, with the events es, and the reader r and the room R are as the last call left them
 --   text-begun                so at the start
@@ -13,11 +13,11 @@ use native.Mathlib.Omega.{arith}
 use mathlib.Core.Logic.{_⊎_, inl, inr}
 use mathlib.Core.Path.{_≡_, refl, sym, ap, ap₂, _∙_, subst}
 use mathlib.Core.Bool.{Bool, true, false}
-use mathlib.Core.List.{List, [], _∷_, _++_, append-assoc}
-use lib.Dec.{eqb, leb}
+use mathlib.Core.List.{List, [], _∷_, _++_, append-assoc, append-nil, append-cancel-left}
+use lib.Dec.{leb, ltb}
 use lib.ListN.{length, take, drop, length-append, length-drop}
 use lib.Seq.{length-take-le, take-at, drop-at, take-nil}
-use borrow.Author.Tests.{eq-eqb, leb-true, leb-false}
+use borrow.Author.Tests.{eq-eqb, leb-true, leb-false, ltb-true, ltb-false}
 use Rattle.choice.specs.When.{when, when-true, when-false, never}
 use Rattle.xml.specs.Refused.{scant}
 use Rattle.xml.specs.Grammar.{Ev}
@@ -123,7 +123,7 @@ module _ (N X t : List ℕ) (r : Reader) (R : List ℕ) (es : List Ev) (u out : 
 
       -- where nothing was refused, the block is taken or the output is full
       why-ended : g .reader .refusal ≡ 0 → g .at ≤ length u → g .written ≤ length out → length (g .out) ≡ length out
-        → (g .at ≡ length u) ⊎ (length out < g .written + 16)
+          → (g .at ≡ length u) ⊎ (length out < g .written + 16)
       unfolding moreToRead
       why-ended z inside most same = go (leb (length u) (g .at)) (leb 16 (length (g .out) - g .written)) refl refl
         where
@@ -173,3 +173,32 @@ module _ (N X t : List ℕ) (r : Reader) (R : List ℕ) (es : List Ev) (u out : 
         go : (b : Bool) → tooScant (length R) (length X) (length out) ≡ b → FeedCame (feedAnswer N X u r R out)
         go true e = lent-scant e (sym (feed-scant N X u r R out e))
         go false e = enough-came e
+
+    none-more : (fs : List Ev) (j : State) → run bounds (t ++ []) State.start ≡ stands (es ++ fs) j → fs ≡ []
+    none-more fs j e =
+        let q = sym (h .reads) ∙ ap (λ z. run bounds z State.start) (sym (append-nil t)) ∙ e in
+        let same : es ++ [] ≡ es ++ fs = append-nil es ∙ (let z : es ≡ es ++ fs = cc in z) in
+        sym (append-cancel-left es [] fs same)
+
+    pub feed-on :
+        tooScant (length R) (length X) (length out) ≡ false → 0 < length u
+        → (0 < feedAnswer N X u r R out .taken) ⊎ (0 < feedAnswer N X u r R out .refusal)
+    unfolding recordsOf numbered
+    feed-on lent some = go (feedAnswer N X u r R out) feed-came
+      where
+        full : (c : Came) (fs : List Ev) → c .taken ≡ 0 → TextRead N X (t ++ take (c .taken) u) (c .reader) (c .room) (es ++ fs) → Kept fs c
+            → length out < c .written + 16 → ⊥
+        full c fs z x k l =
+            let none = none-more fs _ (ap (λ n. run bounds (t ++ take n u) State.start) (sym z) ∙ x .reads) in
+            let w = ap (λ gs. length (recordsIn (numberOf N X) gs)) (sym none) ∙ k .wrote .size in
+            omega (arith, w, l, enough (length R) (length X) (length out) lent .out′)
+
+        go : (c : Came) → FeedCame c → (0 < c .taken) ⊎ (0 < c .refusal)
+        go c (lent-scant e f) = never (sym lent ∙ e)
+        go c (went fs z x (inl e) k) = inl (omega arith)
+        go c (went fs z x (inr l) k) = by-taken (ltb 0 (c .taken)) refl
+          where
+            by-taken : (b : Bool) → ltb 0 (c .taken) ≡ b → (0 < c .taken) ⊎ (0 < c .refusal)
+            by-taken true e = inl (ltb-true _ _ e)
+            by-taken false e = let m : c .taken ≤ 0 = ltb-false _ _ e in absurd (full c fs (omega arith) x k l)
+        go c (refused fs b w l q j e k) = inr l
