@@ -6,12 +6,14 @@
 //!
 //! catalogue.xml is the text, and names.txt the list of its names.
 
+mod draws;
+
+use draws::Draws;
 use std::fmt::Write;
 use std::fs::{create_dir_all, write};
 use std::io::Result;
 use std::path::Path;
 
-const SEED: u64 = 88_172_645_463_325_252;
 const NAMES: &str = "catalogue\nentry\nnumber\ncomposer\ntitle\nkey\nyear\nscoring\npart\ntheme\ntempo\nmeter\nincipit\nsource\nref\nremark\n";
 
 const COMPOSERS: [(&str, u16, u16); 10] = [
@@ -96,16 +98,7 @@ const BARS: [&str; 10] = [
     "4'G+G{8FE}D",
 ];
 
-struct Draws(u64);
-
 impl Draws {
-    fn below(&mut self, end: usize) -> usize {
-        self.0 ^= self.0 << 13;
-        self.0 ^= self.0 >> 7;
-        self.0 ^= self.0 << 17;
-        (self.0 >> 32) as usize % end
-    }
-
     fn pick<T: Copy>(&mut self, from: &[T]) -> T {
         from[self.below(from.len())]
     }
@@ -160,7 +153,7 @@ const START: &str = "<?xml version=\"1.0\" encoding=\"UTF-8\"?>\n<!-- A thematic
 
 fn catalogue(bytes: usize) -> String {
     let mut text = String::from(START);
-    let mut draws = Draws(SEED);
+    let mut draws = Draws::begin();
     for number in 1.. {
         if text.len() >= bytes {
             break;

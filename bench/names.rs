@@ -2,6 +2,7 @@
 //! and what an event of a whole stream takes, in blocks and one by one. With `--inputs FOLDER` it writes the cases as
 //! inputs of whole programs.
 
+mod draws;
 mod sessions;
 mod streams;
 

@@ -1,5 +1,6 @@
 //! Queries, and streams with so many names of the query (bench/names).
 
+use crate::draws::Draws;
 use crate::sessions::RECORD;
 use std::fs::{create_dir_all, File};
 use std::io::{Result, Write};
@@ -13,19 +14,8 @@ const MOST_LEAVES: usize = 6;
 const REPEATS: usize = 50;
 /// How many names there are: those of the query and the others.
 const NAMES: usize = 100;
-const SEED: u64 = 88_172_645_463_325_252;
-
-/// The same draws for each case, so that all streams have one shape.
-struct Draws(u64);
 
 impl Draws {
-    fn below(&mut self, end: usize) -> usize {
-        self.0 ^= self.0 << 13;
-        self.0 ^= self.0 >> 7;
-        self.0 ^= self.0 << 17;
-        (self.0 >> 32) as usize % end
-    }
-
     /// As many of these as there are names, none of them twice.
     fn names(&mut self, mut from: Vec<u16>) -> Vec<u16> {
         for at in 0..NAMES {
@@ -85,7 +75,8 @@ pub struct Case {
 impl Case {
     /// A query of so many steps, and a stream in which so many of 100 elements have names of the query.
     fn new(steps: usize, kind: &str, asked: usize, from: &[u16]) -> Case {
-        let mut draws = Draws(SEED);
+        // The same for each case, so that all streams have one shape.
+        let mut draws = Draws::begin();
         let all = draws.names(from.to_vec());
         let (mine, others) = all.split_at(steps);
         let name = |draws: &mut Draws| {

@@ -156,14 +156,7 @@ pub fn same(a: &[u8], i: usize, b: &[u8], j: usize, n: usize) -> bool
     requires { ⌜ (i + n ≤ length (now a)) × (j + n ≤ length (now b)) ⌝ }
     ensures { λ r. ⌜ r ≡ sameBytes (now (a .entry)) i (now (b .entry)) j n ⌝ }
 {
-    let mut k: usize = 0;
-    while k < n {
-        if a[i + k] != b[j + k] {
-            return false;
-        }
-        k += 1;
-    }
-    true
+    spelling::same(&a[i..i + n], &b[j..j + n])
 }
 
 // Each entity's spelling with its semicolon, filled up with 0, and the code point that it stands for. "the five predefined entities lt, gt, amp, apos, quot,

@@ -20,11 +20,7 @@ use Rattle.modes.specs.declared.Mode.{Mode}
 use Rattle.modes.specs.declared.Mode.the-variants as mode
 use Rattle.modes.specs.declared.Gives.the-variants as gives
 use Rattle.modes.specs.declared.Reader.{Reader}
-use Rattle.modes.specs.Moves.{goTo, stayIn, refuseWith, spellOn, goAside, giveOut}
-
--- the place after the document element
-abbrev pub afterPlace : ℕ
-afterPlace = 65_535
+use Rattle.modes.specs.Moves.{afterPlace, goTo, stayIn, refuseWith, spellOn, goAside, giveOut}
 
 unfoldable pub wideTick : Reader → ℕ → Mode → Reader
 wideTick r b back = when (eqb (leadForm b) 0) (refuseWith r notChar) (goAside r mode.Char (leadForm b) back)

@@ -21,6 +21,7 @@ use Rattle.slots.specs.Slots.{nameIn, numberIn, numbered}
 use Rattle.modes.specs.declared.Gives.{Gives}
 use Rattle.modes.specs.declared.Gives.the-variants as gives
 use Rattle.modes.specs.declared.Reader.{Reader}
+use Rattle.modes.specs.Moves.{afterPlace}
 use Rattle.walk.specs.Walk.{innermostOf}
 use Rattle.names.specs.Number.{numberOf}
 
@@ -30,7 +31,7 @@ pub record Emitted : Type 0 where
   pub written : ℕ
 
 unfoldable pub closingSlot : ℕ → ℕ
-closingSlot p = when (eqb p 65_535) 0 p
+closingSlot p = when (eqb p afterPlace) 0 p
 
 unfoldable pub bothIn : List ℕ → ℕ → ℕ → List ℕ
 bothIn out w x = sets (sets out w (eventBytes 1 x)) (w + 8) (eventBytes 2 x)

@@ -17,8 +17,7 @@ use Rattle.slots.specs.Slots.{baseOf, lengthIn}
 use Rattle.modes.specs.declared.Mode.the-variants as mode
 use Rattle.modes.specs.declared.Gives.the-variants as gives
 use Rattle.modes.specs.declared.Reader.{Reader}
-use Rattle.modes.specs.Moves.{stayIn, refuseWith, spellOn, giveOut}
-use Rattle.content.specs.Text.{afterPlace}
+use Rattle.modes.specs.Moves.{afterPlace, stayIn, refuseWith, spellOn, giveOut}
 
 unfoldable pub emptiedTick : Reader → ℕ → Reader
 emptiedTick r b =

@@ -1,5 +1,6 @@
 -- The reader's moves.
 --
+--   afterPlace             the place after the document element
 --   goTo r m               on in the mode m;  stayIn r m: with nothing else changed
 --   refuseWith r x         stopped by the refusal x, where it stands
 --   spellOn r m row n      on in a spelling, n bytes of which were read
@@ -14,6 +15,9 @@ use Rattle.modes.specs.declared.Mode.{Mode}
 use Rattle.modes.specs.declared.Gives.{Gives}
 use Rattle.modes.specs.declared.Gives.the-variants.{Nothing}
 use Rattle.modes.specs.declared.Reader.{Reader}
+
+abbrev pub afterPlace : ℕ
+afterPlace = 65_535
 
 abbrev pub goTo : Reader → Mode → Reader
 goTo r m = record { mode = m; back = r .back; n = 0; row = r .row; count = r .count; gives = Nothing; refusal = 0; place = r .place }

@@ -17,12 +17,13 @@ use lib.ListN.{length}
 use Rattle.choice.specs.When.{when, never, when-known}
 use Rattle.xml.specs.Bounds.{listLimit, unknownName}
 use Rattle.xml.specs.Bounds.Laws.{list-limit-is, unknown-is}
+use Rattle.xml.specs.Grammar.{sameName}
 use Rattle.listed.specs.Lines.{lineAt}
-use Rattle.spelling.specs.Same.{sameBytes, same-exactly}
+use Rattle.spelling.specs.Same.{same-exactly}
 
 unfoldable pub firstFrom : ℕ → List (List ℕ) → List ℕ → ℕ
 firstFrom n [] w = unknownName
-firstFrom n (l ∷ ls) w = when (sameBytes l w) n (firstFrom (suc n) ls w)
+firstFrom n (l ∷ ls) w = when (sameName l w) n (firstFrom (suc n) ls w)
 
 -- "A name's number is its first place in the list of names, counted from 1, and 65,534 for a name that the list has not."
 unfoldable pub firstPlace : List (List ℕ) → List ℕ → ℕ
@@ -78,7 +79,7 @@ outcome : (n : ℕ) (ls : List (List ℕ)) (w : List ℕ) → Outcome n ls w (fi
 unfolding firstFrom
 outcome n [] w = nowhere (λ k h. absurd (omega arith))
 outcome n (l ∷ ls) w =
-    when-known (Outcome n (l ∷ ls) w) (sameBytes l w) _ _ (λ t. found (at-once n l ls w (same-exactly l w .0 t)))
+    when-known (Outcome n (l ∷ ls) w) (sameName l w) _ _ (λ t. found (at-once n l ls w (same-exactly l w .0 t)))
     (λ t. outcome-next n l ls w (λ e. never (sym t ∙ same-exactly l w .1 e)) (outcome (suc n) ls w))
 
 -- in words, of a list that is taken

@@ -17,11 +17,12 @@ use borrow.Author.Tests.{eqb-true, eqb-false, le-leb}
 use Rattle.choice.specs.When.{when, when-false, when-known}
 use Rattle.xml.specs.Bounds.{listLimit}
 use Rattle.xml.specs.Bounds.Laws.{list-limit-is}
+use Rattle.xml.specs.Grammar.{sameName}
 use Rattle.listed.specs.Lines.{linesOf, lineAt, startOf}
 use Rattle.listed.specs.Lines.Laws.{line-fits, line-spelled}
 use Rattle.spelling.specs.Bucket.{buckets, bucketOf}
 use Rattle.spelling.specs.Bucket.Laws.{bucket-below}
-use Rattle.spelling.specs.Same.{sameBytes, same-not}
+use Rattle.spelling.specs.Same.{same-not}
 use Rattle.chains.specs.Index.{firstIn, linkOf, partly, built, Ready}
 use Rattle.chains.specs.Index.Laws.{first-below, next}
 use Rattle.chains.specs.Index.Parts.{head-at, place-from, place-link}
@@ -31,10 +32,10 @@ use Rattle.names.specs.Number.Laws.{walk-none, walk-here, walk-on}
 use Rattle.names.specs.First.{firstFrom, firstPlace}
 
 -- one that is as long is compared, and no other is the same
-length-first : (l w : List ℕ) → (eqb (length l) (length w) && sameBytes l w) ≡ sameBytes l w
+length-first : (l w : List ℕ) → (eqb (length l) (length w) && sameName l w) ≡ sameName l w
 length-first l w = go (eqb (length l) (length w)) refl
   where
-    go : (t : Bool) → eqb (length l) (length w) ≡ t → (t && sameBytes l w) ≡ sameBytes l w
+    go : (t : Bool) → eqb (length l) (length w) ≡ t → (t && sameName l w) ≡ sameName l w
     go true e = refl
     go false e = sym (same-not l w (λ z. eqb-false _ _ e (ap length z)))
 
@@ -73,12 +74,12 @@ module _ (names old w : List ℕ) (ready : Ready names old) where
     bytes-are : getD index (entryOf (suc k) + 1) 0 / 65536 ≡ length (lineAt lines k)
     bytes-are = omega (arith, link-is, next-small)
 
-    fits-line : fitsAt names index w (suc k) ≡ sameBytes (lineAt lines k) w
+    fits-line : fitsAt names index w (suc k) ≡ sameName (lineAt lines k) w
     unfolding fitsAt spelledAt
     fits-line =
         let line = lineAt lines k in
         ap₂ (λ from n. spelledAt names from n w) from-is bytes-are
-        ∙ ap₂ (λ t part. eqb (length line) (length w) && (t && sameBytes part w)) (le-leb _ _ (line-fits names k there)) (line-spelled names k there)
+        ∙ ap₂ (λ t part. eqb (length line) (length w) && (t && sameName part w)) (le-leb _ _ (line-fits names k there)) (line-spelled names k there)
         ∙ length-first line w
 
   -- a line, and those behind it
@@ -101,8 +102,8 @@ module _ (names old w : List ℕ) (ready : Ready names old) where
     here : k < length lines
     here = there l ls k e
 
-    fits-is : fitsAt names index w (suc k) ≡ sameBytes l w
-    fits-is = fits-line k here ∙ ap (λ z. sameBytes z w) (is-line l ls k e)
+    fits-is : fitsAt names index w (suc k) ≡ sameName l w
+    fits-is = fits-line k here ∙ ap (λ z. sameName z w) (is-line l ls k e)
 
     next-is : nextOf index (suc k) ≡ firstIn (bucketOf l) (suc (suc k)) ls
     next-is = next-line k here ∙ ap₂ (λ z r. firstIn (bucketOf z) (suc (suc k)) r) (is-line l ls k e) (sym (is-rest l ls k e))
@@ -114,9 +115,9 @@ module _ (names old w : List ℕ) (ready : Ready names old) where
     high = omega (arith, here, ready-few ready, list-limit-is)
 
     -- a place of the word's bucket
-    in-bucket : bucketOf l ≡ bucketOf w → walked names index w n (suc k) ≡ when (sameBytes l w) (suc k) (firstFrom (suc (suc k)) ls w)
+    in-bucket : bucketOf l ≡ bucketOf w → walked names index w n (suc k) ≡ when (sameName l w) (suc k) (firstFrom (suc (suc k)) ls w)
     in-bucket b =
-        when-known (λ p. walked names index w n (suc k) ≡ p) (sameBytes l w) _ _
+        when-known (λ p. walked names index w n (suc k) ≡ p) (sameName l w) _ _
         (λ t. walk-here names index w n (suc k) (omega arith) low high (fits-is ∙ t))
         (λ t.
         walk-on names index w n (suc k) (omega arith) low high (fits-is ∙ t)
@@ -125,7 +126,7 @@ module _ (names old w : List ℕ) (ready : Ready names old) where
     one-line : walked names index w n (firstIn (bucketOf w) (suc k) (l ∷ ls)) ≡ firstFrom (suc k) (l ∷ ls) w
     unfolding firstIn firstFrom
     one-line =
-        when-known (λ p. walked names index w n p ≡ when (sameBytes l w) (suc k) (firstFrom (suc (suc k)) ls w)) (eqb (bucketOf l) (bucketOf w)) _ _
+        when-known (λ p. walked names index w n p ≡ when (sameName l w) (suc k) (firstFrom (suc (suc k)) ls w)) (eqb (bucketOf l) (bucketOf w)) _ _
         (λ t. in-bucket (eqb-true _ _ t))
         (λ t. rest n (omega arith) ∙ sym (when-false _ _ _ (same-not l w (λ z. eqb-false _ _ t (ap bucketOf z)))))
 

@@ -18,14 +18,14 @@ use lib.Dec.{eqb, leb}
 use lib.ListN.{length, getD, take, drop}
 use Rattle.choice.specs.When.{when}
 use Rattle.xml.specs.Bounds.{listLimit, unknownName}
+use Rattle.xml.specs.Grammar.{sameName}
 use Rattle.spelling.specs.Bucket.{buckets, bucketOf}
-use Rattle.spelling.specs.Same.{sameBytes}
 
 abbrev pub entryOf : ℕ → ℕ
 entryOf p = buckets + 2 * (p - 1)
 
 unfoldable pub spelledAt : List ℕ → ℕ → ℕ → List ℕ → Bool
-spelledAt names from n w = eqb n (length w) && (leb (from + n) (length names) && sameBytes (take n (drop from names)) w)
+spelledAt names from n w = eqb n (length w) && (leb (from + n) (length names) && sameName (take n (drop from names)) w)
 
 unfoldable pub fitsAt : List ℕ → List ℕ → List ℕ → ℕ → Bool
 fitsAt names x w p = spelledAt names (getD x (entryOf p) 0) (getD x (entryOf p + 1) 0 / 65536) w

@@ -15,7 +15,7 @@ use lib.ListN.{getD, set}
 use Rattle.choice.specs.When.{when}
 use Rattle.chars.specs.Marks.{marked}
 use Rattle.chars.specs.Same.{sameBytes}
-use Rattle.slots.specs.Slots.{attributeSlot, baseOf, lengthIn}
+use Rattle.slots.specs.Slots.{attributeSlot, nameBytes, baseOf, lengthIn}
 
 pub record Copied : Type 0 where
   pub at : ℕ
@@ -33,7 +33,7 @@ unfoldable pub copied : List ℕ → List ℕ → ℕ → ℕ → ℕ → List �
 copied M R s n at [] = record { at = at; n = n; room = R }
 copied M R s n at (b ∷ t) =
     when (marked M b nameMark)
-    (when (leb 64 n) (record { at = at; n = n; room = R }) (copied M (set R (baseOf s + n) b) s (n + 1) (at + 1) t))
+    (when (leb nameBytes n) (record { at = at; n = n; room = R }) (copied M (set R (baseOf s + n) b) s (n + 1) (at + 1) t))
     (record { at = at; n = n; room = R })
 
 unfoldable pub agreed : List ℕ → ℕ → ℕ → ℕ → List ℕ → Agreed
@@ -43,7 +43,7 @@ agreed R s n at (b ∷ t) =
     (when (eqb b (getD R (baseOf s + n) 0)) (agreed R s (n + 1) (at + 1) t) (record { at = at; n = n }))
 
 unfoldable pub isName : List ℕ → ℕ → ℕ → ℕ → Bool
-isName R s at n = when (eqb (getD R (baseOf s + 64) 0) n) (sameBytes R (baseOf s) R at n) false
+isName R s at n = when (eqb (getD R (baseOf s + nameBytes) 0) n) (sameBytes R (baseOf s) R at n) false
 
 -- from the attribute k on, of which m are left
 unfoldable pub doubledFrom : List ℕ → ℕ → ℕ → ℕ → ℕ → Bool

@@ -3,13 +3,13 @@
 ghost use mathlib.Core.Path.{_≡_};
 ghost use Prim.Native.Nat.{_+_, _≤_, _<_};
 ghost use lib.ListN.{length, set, getD, drop};
-ghost use Rattle.slots.specs.Slots.{roomNeeded, baseOf, lengthIn, numberIn, numbered};
+ghost use Rattle.slots.specs.Slots.{roomNeeded, nameBytes, baseOf, lengthIn, numberIn, numbered};
 ghost use Rattle.slots.specs.Copied.{copied, agreed, isName, doubledIn};
 
-// A slot: 64 bytes of a name, its length, the two bytes of its number, high byte first, and one that is not used.
+// A slot: the bytes of a name, as many as one may have, its length, the two bytes of its number, high byte first, and one that is not used.
 pub const SLOT: usize = 68;
 
-pub const LENGTH: usize = 64;
+pub const LENGTH: usize = limits::NAME_BYTES;
 
 // 256 slots of elements and 16 of attributes.
 pub const ATTRIBUTES: usize = 256;
@@ -43,14 +43,14 @@ pub fn put(room: &mut [u8], slot: usize, k: usize, b: u8)
     room[at] = b;
 }
 
-// The length of the name in a slot; one past 64, which no calls lead to, counts as 64.
+// The length of the name in a slot; one past the limit, which no calls lead to, counts as the limit.
 pub fn length(room: &[u8], slot: usize) -> u8
     requires { ⌜ length (now room) ≡ roomNeeded ⌝ }
-    ensures { λ r. ⌜ (r ≡ lengthIn (now (room .entry)) slot) × (r ≤ 64) ⌝ }
+    ensures { λ r. ⌜ (r ≡ lengthIn (now (room .entry)) slot) × (r ≤ nameBytes) ⌝ }
 {
     let n = room[base(slot) + LENGTH];
-    if 64 < n {
-        return 64;
+    if (limits::NAME_BYTES as u8) < n {
+        return limits::NAME_BYTES as u8;
     }
     n
 }
@@ -81,7 +81,7 @@ pub fn put_number(room: &mut [u8], slot: usize, number: u32)
     put(room, slot, 66, (number % 256) as u8);
 }
 
-// Copies more of a name into a slot, where n bytes of it stand: up to a byte of no name, 64 bytes, or the text's end.
+// Copies more of a name into a slot, where n bytes of it stand: up to a byte of no name, the limit, or the text's end.
 pub fn copy(
     marks: &[u8; 256],
     text: &[u8],
@@ -102,7 +102,7 @@ pub fn copy(
         if marks[b as usize] & chars::NAME_CHAR == 0 {
             return Walk { at, n: k };
         }
-        if 64 <= k {
+        if limits::NAME_BYTES as u8 <= k {
             return Walk { at, n: k };
         }
         room[to + k as usize] = b;
@@ -136,7 +136,7 @@ pub fn agree(text: &[u8], from: usize, room: &[u8], slot: usize, n: u8) -> Walk
 
 // Whether the name in a slot has n bytes, those that stand from `at` on.
 fn is_name(room: &[u8], slot: usize, at: usize, n: u8) -> bool
-    requires { ⌜ (length (now room) ≡ roomNeeded) × (n ≤ 64) × (at + 68 ≤ 18_496) ⌝ }
+    requires { ⌜ (length (now room) ≡ roomNeeded) × (n ≤ nameBytes) × (at + 68 ≤ 18_496) ⌝ }
     ensures { λ r. ⌜ r ≡ isName (now (room .entry)) slot at n ⌝ }
 {
     let other = base(slot);
@@ -148,7 +148,7 @@ fn is_name(room: &[u8], slot: usize, at: usize, n: u8) -> bool
 
 // Whether one of the first `count` attributes has the name of n bytes that stands in the slot after them.
 pub fn doubled(room: &[u8], count: u8, n: u8) -> bool
-    requires { ⌜ (length (now room) ≡ roomNeeded) × (n ≤ 64) ⌝ }
+    requires { ⌜ (length (now room) ≡ roomNeeded) × (n ≤ nameBytes) ⌝ }
     ensures { λ r. ⌜ r ≡ doubledIn (now (room .entry)) count n ⌝ }
 {
     let at = base(ATTRIBUTES + count as usize);

@@ -3,7 +3,7 @@ ghost use mathlib.Core.Path.{_≡_};
 ghost use Prim.Native.Nat.{_+_, _≤_, _<_};
 ghost use lib.ListN.{length, getD};
 ghost use Rattle.spelling.specs.Bucket.{fourAt, mixLimit, mixed, settled, bucketOf};
-ghost use Rattle.spelling.specs.Same.{sameBytes};
+ghost use Rattle.xml.specs.Grammar.{sameName};
 
 // How many buckets there are.
 pub const BUCKETS: usize = 65536;
@@ -31,7 +31,7 @@ pub fn bucket(word: &[u8]) -> usize
 // Whether two spellings of one length are one.
 pub fn same(a: &[u8], b: &[u8]) -> bool
     requires { ⌜ length (now a) ≡ length (now b) ⌝ }
-    ensures { λ r. ⌜ r ≡ sameBytes (now (a .entry)) (now (b .entry)) ⌝ }
+    ensures { λ r. ⌜ r ≡ sameName (now (a .entry)) (now (b .entry)) ⌝ }
 {
     let n = b.len();
     if n < FOUR {

@@ -17,8 +17,7 @@ use Rattle.slots.specs.Slots.{baseOf}
 use Rattle.modes.specs.declared.Mode.the-variants as mode
 use Rattle.modes.specs.declared.Prolog.the-variants as prolog
 use Rattle.modes.specs.declared.Reader.{Reader}
-use Rattle.modes.specs.Moves.{goTo, refuseWith, spellOn}
-use Rattle.content.specs.Text.{afterPlace}
+use Rattle.modes.specs.Moves.{afterPlace, goTo, refuseWith, spellOn}
 
 pub record Ticked : Type 0 where
   pub reader : Reader

@@ -17,7 +17,7 @@ use Rattle.meaning.specs.Limits.{depthLimit}
 use Rattle.xml.specs.Bounds.{nameLimit, attributeLimit}
 use Rattle.xml.specs.Refused.{misplaced, foreignName, longName, manyAttributes, twice}
 use Rattle.chars.specs.Marks.{marked}
-use Rattle.slots.specs.Slots.{baseOf, attributeSlot}
+use Rattle.slots.specs.Slots.{baseOf, nameBytes, attributeSlot}
 use Rattle.slots.specs.Copied.{doubledIn}
 use Rattle.modes.specs.declared.Mode.{Mode}
 use Rattle.modes.specs.declared.Mode.the-variants as mode
@@ -37,7 +37,7 @@ tagEnd r b =
 
 -- the room with the name's length in its slot
 abbrev pub measured : Reader → List ℕ → ℕ → List ℕ
-measured r R slot = set R (baseOf slot + 64) (r .n)
+measured r R slot = set R (baseOf slot + nameBytes) (r .n)
 
 unfoldable pub tagTick : List ℕ → Reader → ℕ → List ℕ → Ticked
 tagTick M r b R =
@@ -62,7 +62,7 @@ gapTick M r b R =
 
 unfoldable pub namedTick : Reader → List ℕ → Mode → Ticked
 namedTick r R m =
-    when (ltb 64 (r .n)) (kept (refuseWith r misplaced) R)
+    when (ltb nameBytes (r .n)) (kept (refuseWith r misplaced) R)
     (when (doubledIn R (r .count) (r .n)) (kept (refuseWith r twice) R) (kept (goTo r m) (measured r R (attributeSlot + r .count))))
 
 unfoldable pub attTick : List ℕ → Reader → ℕ → List ℕ → Ticked

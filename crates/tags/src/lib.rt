@@ -180,7 +180,7 @@ fn named(r: Reader, room: &mut [u8], mode: Mode) -> Reader
     requires { ⌜ length (now room) ≡ roomNeeded ⌝ }
     ensures { λ x. ⌜ record { reader = x; room = now (room .exit) } ≡ namedTick r (now (room .entry)) mode ⌝ }
 {
-    if 64 < r.n {
+    if (limits::NAME_BYTES as u8) < r.n {
         return modes::refuse(r, MISPLACED);
     }
     if slots::doubled(&*room, r.count, r.n) {

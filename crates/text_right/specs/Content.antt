@@ -26,9 +26,9 @@ use Rattle.chars.specs.Forms.{leadForm, follows, whole}
 use Rattle.modes.specs.declared.Mode.{Mode}
 use Rattle.modes.specs.declared.Mode.the-variants as mode
 use Rattle.modes.specs.declared.Reader.{Reader}
-use Rattle.modes.specs.Moves.{goTo, refuseWith, spellOn}
+use Rattle.modes.specs.Moves.{afterPlace, goTo, refuseWith, spellOn}
 use Rattle.prolog.specs.Around.{around}
-use Rattle.content.specs.Text.{afterPlace, wideTick, charTick, dataTick, noteTick, remarkedTick, bangTick}
+use Rattle.content.specs.Text.{wideTick, charTick, dataTick, noteTick, remarkedTick, bangTick}
 use Rattle.text_right.specs.Marked.{marksTable, plain-mark, dash-mark, blank-mark}
 use Rattle.text_right.specs.Stands.{placeOf, formRows, backState, stateIn, bangState, amperState, evsIn}
 use Rattle.text_right.specs.Sound.{Inner, Outer, Spot, Kept, Back, entity-none, Fits}

@@ -29,7 +29,7 @@ use Rattle.chars.specs.Marks.{marked}
 use Rattle.slots.specs.Slots.{baseOf, lengthIn, nameIn}
 use Rattle.modes.specs.declared.Mode.the-variants as mode
 use Rattle.modes.specs.declared.Reader.{Reader}
-use Rattle.content.specs.Text.{afterPlace}
+use Rattle.modes.specs.Moves.{afterPlace}
 use Rattle.ends.specs.Ends.{emptiedTick, closed, endedTick, wholeTick, endTick}
 use Rattle.text_right.specs.Marked.{marksTable, name-mark, blank-mark, beyond-mark}
 use Rattle.text_right.specs.Stands.{names, placeOf, endState, stateIn, slotOf, evsIn}

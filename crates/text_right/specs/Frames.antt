@@ -25,7 +25,7 @@ use Rattle.choice.specs.When.{when, when-true, when-false, when-known}
 use Rattle.xml.specs.Machine.{Place}
 use Rattle.slots.specs.Slots.{attributeSlot, baseOf, lengthIn, nameIn}
 use Rattle.slots.specs.Slots.Laws.{base-inside}
-use Rattle.content.specs.Text.{afterPlace}
+use Rattle.modes.specs.Moves.{afterPlace}
 use Rattle.text_right.specs.Stands.{names, attsOf, placeOf, begunIn}
 use Rattle.text_right.specs.Sound.{openAt, Kept}
 

@@ -30,8 +30,7 @@ use Rattle.xml.specs.Limited.{bounds}
 use Rattle.slots.specs.Slots.{baseOf, lengthIn}
 use Rattle.modes.specs.declared.Mode.{Mode}
 use Rattle.modes.specs.declared.Reader.{Reader}
-use Rattle.modes.specs.Moves.{refuseWith}
-use Rattle.content.specs.Text.{afterPlace}
+use Rattle.modes.specs.Moves.{afterPlace, refuseWith}
 use Rattle.tags.specs.Markup
 use Rattle.tags.specs.Markup.{begun, slashedTick, markupTick, firstTick}
 use Rattle.tags.specs.Found.{not-deeper, deeper}

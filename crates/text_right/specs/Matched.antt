@@ -23,7 +23,7 @@ use Rattle.xml.specs.Grammar.{Ev}
 use Rattle.xml.specs.Machine.{Place, State, Outcome, refused, goes, settle}
 use Rattle.slots.specs.Slots.{nameIn}
 use Rattle.modes.specs.declared.Reader.{Reader}
-use Rattle.content.specs.Text.{afterPlace}
+use Rattle.modes.specs.Moves.{afterPlace}
 use Rattle.tags.specs.Markup.{Ticked}
 use Rattle.text_right.specs.Stands.{names, placeOf, stateOf, evsOf}
 use Rattle.text_right.specs.Sound.{Inner, Sound}

@@ -28,7 +28,7 @@ use Rattle.modes.specs.declared.Mode.the-variants as mode
 use Rattle.modes.specs.declared.Prolog.{Prolog}
 use Rattle.modes.specs.declared.Prolog.the-variants as prolog
 use Rattle.modes.specs.declared.Reader.{Reader}
-use Rattle.content.specs.Text.{afterPlace}
+use Rattle.modes.specs.Moves.{afterPlace}
 
 pub record Inner (p : ℕ) : Type 0 where
   pub low : 1 ≤ p

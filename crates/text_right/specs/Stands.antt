@@ -34,7 +34,7 @@ use Rattle.modes.specs.declared.Prolog.the-variants as prolog
 use Rattle.modes.specs.declared.Gives.{Gives}
 use Rattle.modes.specs.declared.Gives.the-variants as gives
 use Rattle.modes.specs.declared.Reader.{Reader}
-use Rattle.content.specs.Text.{afterPlace}
+use Rattle.modes.specs.Moves.{afterPlace}
 
 unfoldable pub names : List ℕ → ℕ → List (List ℕ)
 names R zero = []

@@ -14,7 +14,7 @@ use lib.ListN.{length, getD, set, drop, length-drop}
 use borrow.Author.Tests.{leb-true, leb-false, eq-eqb}
 use Rattle.choice.specs.When.{when-true, when-known, when-either}
 use Rattle.chars.specs.Marks.{marked, span}
-use Rattle.slots.specs.Slots.{baseOf, lengthIn}
+use Rattle.slots.specs.Slots.{nameBytes, baseOf, lengthIn}
 use Rattle.slots.specs.Copied.{Copied, copied, Agreed, agreed, nameMark}
 use Rattle.modes.specs.declared.Reader.{Reader}
 use Rattle.tick.specs.Tick.{tick}
@@ -40,7 +40,7 @@ unfolding copied
 copied-within M R s n at [] = (omega arith, omega arith)
 copied-within M R s n at (b ∷ t) =
     when-either (λ (w : Copied). Between at (at + suc (length t)) (w .at)) (marked M b nameMark) _ _
-    (when-either (λ (w : Copied). Between at (at + suc (length t)) (w .at)) (leb 64 n) _ _ (omega arith, omega arith)
+    (when-either (λ (w : Copied). Between at (at + suc (length t)) (w .at)) (leb nameBytes n) _ _ (omega arith, omega arith)
     (let h = copied-within M (set R (baseOf s + n) b) s (n + 1) (at + 1) t in (omega (arith, h .0), omega (arith, h .1))))
     (omega arith, omega arith)
 

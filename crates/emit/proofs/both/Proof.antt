@@ -5,7 +5,6 @@ use mathlib.Core.Path.{refl, ap, _∙_}
 use lib.Seq.{sets}
 use Rattle.emit.specs.Emit.{bothIn}
 use Rattle.records.specs.Event.{eventBytes}
-use mathlib.Core.Path.{refl}
 use Rattle.emit.proofs.both.Statement.{statement}
 use Rattle.emit.proofs.both.Tie as tie
 

@@ -19,29 +19,29 @@ use Rattle.choice.specs.Count.{down}
 use Rattle.choice.specs.When.{when, never, when-true, when-false, when-known}
 use Rattle.xml.specs.Bounds.{listLimit, unknownName}
 use Rattle.xml.specs.Bounds.Laws.{list-limit-is, unknown-is}
+use Rattle.xml.specs.Grammar.{sameName}
 use Rattle.spelling.specs.Bucket.{bucketOf}
-use Rattle.spelling.specs.Same.{sameBytes}
 use Rattle.names.specs.Number.{spelledAt, fitsAt, nextOf, isPlace, walked, numberOf}
 
 module _ (names : List ℕ) (from n : ℕ) (w : List ℕ) where
   pub spelled-long : (n ≡ length w → ⊥) → spelledAt names from n w ≡ false
   unfolding spelledAt
-  spelled-long other = ap (λ t. t && (leb (from + n) (length names) && sameBytes (take n (drop from names)) w)) (ne-eqb n (length w) other)
+  spelled-long other = ap (λ t. t && (leb (from + n) (length names) && sameName (take n (drop from names)) w)) (ne-eqb n (length w) other)
 
   pub spelled-past : n ≡ length w → length names < from + n → spelledAt names from n w ≡ false
   unfolding spelledAt
   spelled-past long past =
-      ap₂ (λ s t. s && (t && sameBytes (take n (drop from names)) w)) (eq-eqb n (length w) long) (lt-leb (from + n) (length names) past)
+      ap₂ (λ s t. s && (t && sameName (take n (drop from names)) w)) (eq-eqb n (length w) long) (lt-leb (from + n) (length names) past)
 
   -- the part of the list from byte `from` to byte `end` is compared
   pub spelled-whole :
-      (t : Bool) (end : ℕ) → n ≡ length w → end ≡ from + n → end ≤ length names → t ≡ sameBytes (take (end - from) (drop from names)) w →
+      (t : Bool) (end : ℕ) → n ≡ length w → end ≡ from + n → end ≤ length names → t ≡ sameName (take (end - from) (drop from names)) w →
       spelledAt names from n w ≡ t
   unfolding spelledAt
   spelled-whole t end long ends within told =
       let part : n ≡ end - from = omega arith in
-      ap₂ (λ s u. s && (u && sameBytes (take n (drop from names)) w)) (eq-eqb n (length w) long) (le-leb (from + n) (length names) (omega arith))
-      ∙ ap (λ k. sameBytes (take k (drop from names)) w) part ∙ sym told
+      ap₂ (λ s u. s && (u && sameName (take n (drop from names)) w)) (eq-eqb n (length w) long) (le-leb (from + n) (length names) (omega arith))
+      ∙ ap (λ k. sameName (take k (drop from names)) w) part ∙ sym told
 
 place-yes : (p : ℕ) → 1 ≤ p → p ≤ listLimit → isPlace p ≡ true
 unfolding isPlace

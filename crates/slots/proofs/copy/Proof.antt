@@ -48,6 +48,9 @@ returns c =
     ∙ copied-other (a .marks .now) (x .loop .room) (a .slot) (x .loop .k) i (a .text .now) (omega arith)
     (unmarked (a .marks .now) (getD (a .text .now) i 0) nameMark (c .if1 .taken)))
 
+cast-if2 : tie.Need-cast-if2 Inv-loop μ-loop
+cast-if2 c = search needs
+
 same-length-2 : tie.Need-same-length-2 Inv-loop μ-loop
 same-length-2 c = c .before .before .before .before .before .loop .inv .1
 
@@ -119,6 +122,7 @@ copy-spec =
     element-copy-out-if1
     same-length
     returns
+    cast-if2
     same-length-2
     returns-2
     cast-room

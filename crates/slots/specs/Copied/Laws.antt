@@ -1,6 +1,6 @@
 -- Names read from a text, byte by byte.
 --
---   copied-end, copied-other, copied-full, copied-on      at the text's end, at a byte of no name, with 64 bytes, and at one byte more
+--   copied-end, copied-other, copied-full, copied-on      at the text's end, at a byte of no name, with as many bytes as a name may have, and at one byte more
 --   agreed-end, agreed-whole, agreed-other, agreed-on     at the text's end, at the name's, at a byte that differs, and at one byte more
 --   name-length, name-bytes      a slot's name by its length, and by its bytes
 --   doubled-begin                all attributes are left
@@ -20,7 +20,7 @@ use Rattle.choice.specs.When.{when-true, when-false}
 use Rattle.choice.specs.Count.{left, gone}
 use Rattle.chars.specs.Marks.{marked}
 use Rattle.chars.specs.Same.{sameBytes}
-use Rattle.slots.specs.Slots.{attributeSlot, baseOf, lengthIn}
+use Rattle.slots.specs.Slots.{attributeSlot, nameBytes, baseOf, lengthIn}
 use Rattle.slots.specs.Copied.{nameMark, copied, agreed, isName, doubledFrom, doubledIn}
 
 -- the next byte, and the text after it
@@ -37,15 +37,15 @@ module _ (M R : List ℕ) (s n at : ℕ) (t : List ℕ) where
   copied-other h m = ap (copied M R s n at) (next t at h) ∙ when-false _ _ _ m
 
   pub copied-full :
-      at < length t → marked M (getD t at 0) nameMark ≡ true → 64 ≤ n → copied M R s n at (drop at t) ≡ record { at = at; n = n; room = R }
+      at < length t → marked M (getD t at 0) nameMark ≡ true → nameBytes ≤ n → copied M R s n at (drop at t) ≡ record { at = at; n = n; room = R }
   unfolding copied
-  copied-full h m l = ap (copied M R s n at) (next t at h) ∙ when-true _ _ _ m ∙ when-true _ _ _ (le-leb 64 n l)
+  copied-full h m l = ap (copied M R s n at) (next t at h) ∙ when-true _ _ _ m ∙ when-true _ _ _ (le-leb nameBytes n l)
 
   pub copied-on :
-      at < length t → marked M (getD t at 0) nameMark ≡ true → n < 64
+      at < length t → marked M (getD t at 0) nameMark ≡ true → n < nameBytes
       → copied M R s n at (drop at t) ≡ copied M (set R (baseOf s + n) (getD t at 0)) s (n + 1) (at + 1) (drop (at + 1) t)
   unfolding copied
-  copied-on h m l = ap (copied M R s n at) (next t at h) ∙ when-true _ _ _ m ∙ when-false _ _ _ (lt-leb 64 n l)
+  copied-on h m l = ap (copied M R s n at) (next t at h) ∙ when-true _ _ _ m ∙ when-false _ _ _ (lt-leb nameBytes n l)
 
 module _ (R : List ℕ) (s n at : ℕ) (t : List ℕ) where
   pub agreed-end : length t ≤ at → agreed R s n at (drop at t) ≡ record { at = at; n = n }
@@ -68,16 +68,16 @@ module _ (R : List ℕ) (s n at : ℕ) (t : List ℕ) where
   agreed-on h l e = ap (agreed R s n at) (next t at h) ∙ when-false _ _ _ (lt-leb (lengthIn R s) n l) ∙ when-true _ _ _ (eq-eqb _ _ e)
 
 module _ (R : List ℕ) (s at n other : ℕ) (e : other ≡ baseOf s) where
-  pub name-length : (getD R (other + 64) 0 ≡ n → ⊥) → false ≡ isName R s at n
+  pub name-length : (getD R (other + nameBytes) 0 ≡ n → ⊥) → false ≡ isName R s at n
   unfolding isName
-  name-length d = sym (when-false _ (sameBytes R (baseOf s) R at n) _ (ne-eqb _ n (λ q. d (ap (λ k. getD R (k + 64) 0) e ∙ q))))
+  name-length d = sym (when-false _ (sameBytes R (baseOf s) R at n) _ (ne-eqb _ n (λ q. d (ap (λ k. getD R (k + nameBytes) 0) e ∙ q))))
 
-  pub name-bytes : {r : Bool} → getD R (other + 64) 0 ≡ n → r ≡ sameBytes R other R at n → r ≡ isName R s at n
+  pub name-bytes : {r : Bool} → getD R (other + nameBytes) 0 ≡ n → r ≡ sameBytes R other R at n → r ≡ isName R s at n
   unfolding isName
   name-bytes l h =
       h
       ∙ ap (λ k. sameBytes R k R at n) e
-      ∙ sym (when-true _ _ false (eq-eqb _ n (ap (λ k. getD R (k + 64) 0) (sym e) ∙ l)))
+      ∙ sym (when-true _ _ false (eq-eqb _ n (ap (λ k. getD R (k + nameBytes) 0) (sym e) ∙ l)))
 
 pub doubled-begin : (R : List ℕ) (count n at : ℕ) → at ≡ baseOf (attributeSlot + count) → doubledIn R count n ≡ doubledFrom R at n 0 (count - 0)
 unfolding doubledIn

@@ -2,7 +2,8 @@
 --
 --   room-is                   18,496 bytes
 --   base-inside, base-past    where a slot begins that is there, and one that is not
---   length-long, length-short      the length of a name that counts as 64, and as it is
+--   name-bytes-are            a slot's names are as long as the limit of a name
+--   length-long, length-short      the length of a name that counts as the limit, and as it is
 --   number-read               the number from its two bytes;  name-part: the name as a part of the room
 --
 -- Assumes nothing.
@@ -13,11 +14,16 @@ use mathlib.Core.List.{List}
 use lib.ListN.{getD, take, drop}
 use borrow.Author.Tests.{lt-ltb, le-ltb}
 use Rattle.choice.specs.When.{when-true, when-false}
-use Rattle.slots.specs.Slots.{roomNeeded, baseOf, lengthIn, nameIn, numberIn}
+use Rattle.xml.specs.Bounds.{nameLimit}
+use Rattle.xml.specs.Bounds.Laws.{name-limit-is}
+use Rattle.slots.specs.Slots.{roomNeeded, nameBytes, baseOf, lengthIn, nameIn, numberIn}
 
 pub room-is : roomNeeded ≡ 18_496
 unfolding roomNeeded
 room-is = refl
+
+pub name-bytes-are : nameBytes ≡ nameLimit
+name-bytes-are = sym name-limit-is
 
 pub base-inside : (s : ℕ) → s < 272 → s * 68 ≡ baseOf s
 unfolding baseOf
@@ -28,14 +34,15 @@ unfolding baseOf
 base-past s h = sym (when-false _ (s * 68) _ (le-ltb s 272 h))
 
 module _ (R : List ℕ) (s at : ℕ) (e : at ≡ baseOf s) where
-  pub length-long : 64 < getD R (at + 64) 0 → 64 ≡ lengthIn R s
+  pub length-long : nameBytes < getD R (at + nameBytes) 0 → nameBytes ≡ lengthIn R s
   unfolding lengthIn
-  length-long h = sym (when-true _ _ (getD R (baseOf s + 64) 0) (lt-ltb 64 _ (subst (λ k. 64 < getD R (k + 64) 0) e h)))
+  length-long h = sym (when-true _ _ (getD R (baseOf s + nameBytes) 0) (lt-ltb nameBytes _ (subst (λ k. nameBytes < getD R (k + nameBytes) 0) e h)))
 
-  pub length-short : getD R (at + 64) 0 ≤ 64 → getD R (at + 64) 0 ≡ lengthIn R s
+  pub length-short : getD R (at + nameBytes) 0 ≤ nameBytes → getD R (at + nameBytes) 0 ≡ lengthIn R s
   unfolding lengthIn
   length-short h =
-      ap (λ k. getD R (k + 64) 0) e ∙ sym (when-false _ 64 (getD R (baseOf s + 64) 0) (le-ltb 64 _ (subst (λ k. getD R (k + 64) 0 ≤ 64) e h)))
+      ap (λ k. getD R (k + nameBytes) 0) e
+      ∙ sym (when-false _ nameBytes (getD R (baseOf s + nameBytes) 0) (le-ltb nameBytes _ (subst (λ k. getD R (k + nameBytes) 0 ≤ nameBytes) e h)))
 
   pub number-read : getD R (at + 65) 0 * 256 + getD R (at + 66) 0 ≡ numberIn R s
   unfolding numberIn

@@ -17,8 +17,9 @@ use lib.Seq.{ext-getD}
 use borrow.Author.Tests.{eqb-true, eqb-false, ltb-true, ltb-false}
 use Rattle.words.specs.Words.{Bytes}
 use Rattle.words.specs.Words.Laws.{first-byte, second-byte, third-byte, fourth-byte}
+use Rattle.xml.specs.Grammar.{sameName}
 use Rattle.spelling.specs.Bucket.{fourAt}
-use Rattle.spelling.specs.Same.{sameBytes, same-exactly, same-not}
+use Rattle.spelling.specs.Same.{same-exactly, same-not}
 
 -- a byte before k, or from k on
 on-a-side : {P : Type 0} (j k : ℕ) → (j < k → P) → (k ≤ j → P) → P
@@ -35,7 +36,7 @@ module _ (a b : List ℕ) where
   pub agree-none : Agree 0
   agree-none = record { each = λ j l. absurd (omega arith) }
 
-  pub same-stops : (k : ℕ) → (fourAt a k ≡ fourAt b k → ⊥) → sameBytes a b ≡ false
+  pub same-stops : (k : ℕ) → (fourAt a k ≡ fourAt b k → ⊥) → sameName a b ≡ false
   same-stops k differ = same-not a b (λ e. differ (ap (λ w. fourAt w k) e))
 
   module _ (bytes-a : Bytes a) (bytes-b : Bytes b) where
@@ -74,7 +75,7 @@ module _ (a b : List ℕ) where
 
     pub same-ends :
         (k x y : ℕ) → length a ≡ length b → length b ≤ k + 4 → Agree k → x ≡ fourAt a (length b - 4) → y ≡ fourAt b (length b - 4) →
-        eqb x y ≡ sameBytes a b
+        eqb x y ≡ sameName a b
     same-ends k x y long near f is-x is-y = go (eqb x y) refl
       where
         whole : fourAt a (length b - 4) ≡ fourAt b (length b - 4) → a ≡ b
@@ -82,11 +83,11 @@ module _ (a b : List ℕ) where
             ext-getD 0 a b long
             (λ j l. on-a-side j k (λ h. f .each j h) (λ h. four-each (length b - 4) e j (omega arith) (omega arith)))
 
-        go : (t : Bool) → eqb x y ≡ t → t ≡ sameBytes a b
+        go : (t : Bool) → eqb x y ≡ t → t ≡ sameName a b
         go true e = sym (same-exactly a b .1 (whole (sym is-x ∙ eqb-true x y e ∙ is-y)))
         go false e = sym (same-stops (length b - 4) (λ z. eqb-false x y e (is-x ∙ z ∙ sym is-y)))
 
-    pub same-few : (x y : ℕ) → length a ≡ length b → length b < 4 → x ≡ fourAt a 0 → y ≡ fourAt b 0 → eqb x y ≡ sameBytes a b
+    pub same-few : (x y : ℕ) → length a ≡ length b → length b < 4 → x ≡ fourAt a 0 → y ≡ fourAt b 0 → eqb x y ≡ sameName a b
     same-few x y long short is-x is-y =
         let first : 0 ≡ length b - 4 = omega arith in
         same-ends 0 x y long (omega arith) agree-none (is-x ∙ ap (fourAt a) first) (is-y ∙ ap (fourAt b) first)

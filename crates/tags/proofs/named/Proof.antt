@@ -6,6 +6,9 @@ use Rattle.choice.specs.Tests.{tests}
 use Rattle.tags.proofs.named.Statement.{statement}
 use Rattle.tags.proofs.named.Tie as tie
 
+cast-if1 : tie.Need-cast-if1
+cast-if1 c = search needs
+
 refuse-requires : tie.Need-refuse-requires
 refuse-requires c κs = search needs
 
@@ -49,6 +52,7 @@ pub named-spec : {M : Type 1} → statement M
 named-spec =
     tie.close
     (tie.spec
+    cast-if1
     refuse-requires
     returns
     doubled-requires
