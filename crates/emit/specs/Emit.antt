@@ -1,7 +1,6 @@
 -- The events that a byte gave, as records in the output.
 --
 --   Emitted                    the room, the output, and how many of its bytes are written
---   closingSlot p              the slot of the element that was just closed
 --   bothIn out w x             the records of an open and a close of the name x, from w on
 --   opened, closed             after an open, whose number is kept in its slot, and after a close
 --   emitted names x r R out w        after what the reader r gives, in the list `names` with its index x
@@ -13,15 +12,13 @@ use Prim.Native.Nat.{ℕ, _+_, _≤_}
 use native.Mathlib.Omega.{arith}
 use mathlib.Core.Path.{_≡_, sym, ap, ap₂, _∙_, subst}
 use mathlib.Core.List.{List}
-use lib.Dec.{eqb}
 use lib.Seq.{sets}
-use Rattle.choice.specs.When.{when}
 use Rattle.records.specs.Event.{eventBytes}
 use Rattle.slots.specs.Slots.{nameIn, numberIn, numbered}
 use Rattle.modes.specs.declared.Gives.{Gives}
 use Rattle.modes.specs.declared.Gives.the-variants as gives
 use Rattle.modes.specs.declared.Reader.{Reader}
-use Rattle.modes.specs.Moves.{afterPlace}
+use Rattle.modes.specs.Moves.{openAt}
 use Rattle.walk.specs.Walk.{innermostOf}
 use Rattle.names.specs.Number.{numberOf}
 
@@ -29,9 +26,6 @@ pub record Emitted : Type 0 where
   pub room : List ℕ
   pub out : List ℕ
   pub written : ℕ
-
-unfoldable pub closingSlot : ℕ → ℕ
-closingSlot p = when (eqb p afterPlace) 0 p
 
 unfoldable pub bothIn : List ℕ → ℕ → ℕ → List ℕ
 bothIn out w x = sets (sets out w (eventBytes 1 x)) (w + 8) (eventBytes 2 x)
@@ -52,8 +46,8 @@ closed s R out w = record { room = R; out = sets out w (eventBytes 2 (numberIn R
 unfoldable pub emittedBy : Gives → List ℕ → List ℕ → ℕ → List ℕ → List ℕ → ℕ → Emitted
 emittedBy gives.Nothing names x p R out w = record { room = R; out = out; written = w }
 emittedBy gives.Open names x p R out w = opened names x (innermostOf p) R out w
-emittedBy gives.Close names x p R out w = closed (closingSlot p) R out w
-emittedBy gives.Both names x p R out w = both R out w (numberOf names x (nameIn R (closingSlot p)))
+emittedBy gives.Close names x p R out w = closed (openAt p) R out w
+emittedBy gives.Both names x p R out w = both R out w (numberOf names x (nameIn R (openAt p)))
 emittedBy gives.Remark names x p R out w = both R out w 65_535
 
 unfoldable pub emitted : List ℕ → List ℕ → Reader → List ℕ → List ℕ → ℕ → Emitted

@@ -6,14 +6,15 @@ use modes::Reader;
 ghost use mathlib.Core.Path.{_≡_};
 ghost use Prim.Native.Nat.{_+_, _≤_, _<_};
 ghost use lib.ListN.{length};
+ghost use Rattle.modes.specs.Moves.{openAt};
 ghost use Rattle.slots.specs.Slots.{roomNeeded, nameIn};
 ghost use Rattle.chains.specs.Index.{indexWords};
 ghost use Rattle.names.specs.Number.{numberOf};
-ghost use Rattle.emit.specs.Emit.{closingSlot, bothIn, opened, closed, emitted};
+ghost use Rattle.emit.specs.Emit.{bothIn, opened, closed, emitted};
 
 // The slot of the element that was just closed.
 fn closing(place: u16) -> usize
-    ensures { λ x. ⌜ x ≡ closingSlot place ⌝ }
+    ensures { λ x. ⌜ x ≡ openAt place ⌝ }
 {
     if place == AFTER {
         return 0;

@@ -1,6 +1,7 @@
 -- The reader's moves.
 --
 --   afterPlace             the place after the document element
+--   openAt p               how many elements are open at the place p: so, too, the slot of the one that was just closed
 --   goTo r m               on in the mode m;  stayIn r m: with nothing else changed
 --   refuseWith r x         stopped by the refusal x, where it stands
 --   spellOn r m row n      on in a spelling, n bytes of which were read
@@ -11,6 +12,8 @@
 -- Assumes nothing.
 pub mod Laws
 use Prim.Native.Nat.{ℕ}
+use lib.Dec.{eqb}
+use Rattle.choice.specs.When.{when}
 use Rattle.modes.specs.declared.Mode.{Mode}
 use Rattle.modes.specs.declared.Gives.{Gives}
 use Rattle.modes.specs.declared.Gives.the-variants.{Nothing}
@@ -18,6 +21,9 @@ use Rattle.modes.specs.declared.Reader.{Reader}
 
 abbrev pub afterPlace : ℕ
 afterPlace = 65_535
+
+unfoldable pub openAt : ℕ → ℕ
+openAt p = when (eqb p afterPlace) 0 p
 
 abbrev pub goTo : Reader → Mode → Reader
 goTo r m = record { mode = m; back = r .back; n = 0; row = r .row; count = r .count; gives = Nothing; refusal = 0; place = r .place }

@@ -9,15 +9,14 @@
 -- N and X are the list of names and its index. Assumes nothing.
 use Prim.Native.Nat.{ℕ, _+_, _-_, _*_, _≤_, _<_}
 use native.Mathlib.Omega.{arith}
-use mathlib.Core.Path.{_≡_, refl, sym, ap, ap₂, _∙_, subst}
-use mathlib.Core.Bool.{true, false}
-use mathlib.Core.List.{List, [], _∷_, _++_, append-assoc, append-nil}
+use mathlib.Core.Path.{_≡_, refl, sym, _∙_, subst}
+use mathlib.Core.List.{List, [], _++_, append-assoc, append-nil}
 use lib.Dec.{eqb}
 use lib.ListN.{length}
 use borrow.Author.Tests.{ne-eqb}
-use Rattle.choice.specs.When.{when, when-either, when-false}
+use Rattle.choice.specs.When.{when-either, when-false}
 use Rattle.records.specs.Event.{eventBytes}
-use Rattle.xml.specs.Bounds.{unknownName, remarkName}
+use Rattle.xml.specs.Bounds.{remarkName}
 use Rattle.xml.specs.Bounds.Laws.{unknown-is}
 use Rattle.xml.specs.Grammar.{Ev}
 use Rattle.xml.specs.Numbered.{numbered}
@@ -29,10 +28,11 @@ use Rattle.modes.specs.declared.Mode.the-variants as mode
 use Rattle.modes.specs.declared.Gives.{Gives}
 use Rattle.modes.specs.declared.Gives.the-variants as gives
 use Rattle.modes.specs.declared.Reader.{Reader}
+use Rattle.modes.specs.Moves.{openAt}
 use Rattle.walk.specs.Walk.{innermostOf}
-use Rattle.emit.specs.Emit.{Emitted, closingSlot, bothIn, both, openedAs, opened, closed, emittedBy, emitted}
-use Rattle.text_right.specs.Stands.{stateOf, slotOf, evsIn, evsOf}
-use Rattle.text_right.specs.Sound.{openAt, Sound}
+use Rattle.emit.specs.Emit.{Emitted, bothIn, openedAs, opened, closed, emittedBy, emitted}
+use Rattle.text_right.specs.Stands.{stateOf, evsIn, evsOf}
+use Rattle.text_right.specs.Sound.{Sound}
 use Rattle.text_right.specs.Frames.{open-is}
 use Rattle.text_right.specs.Numbered.{numbered-state, numbered-sound}
 use Rattle.text_right.specs.Below.{Same}
@@ -98,12 +98,12 @@ module _ (N X : List ℕ) (x : Reader) (S : List ℕ) where
       remarked-emits k = record { state = refl; sound = ok; counted = k; wrote = wrote-both remarkName h room }
 
       empty-emits : Counted f S (openAt (x .place)) → Given gives.Both
-      unfolding emittedBy evsIn recordsOf numbered closingSlot slotOf
-      empty-emits k = record { state = refl; sound = ok; counted = k; wrote = wrote-both (f (nameIn S (slotOf (x .place)))) h room }
+      unfolding emittedBy evsIn recordsOf numbered
+      empty-emits k = record { state = refl; sound = ok; counted = k; wrote = wrote-both (f (nameIn S (openAt (x .place)))) h room }
 
       -- the slot of what was closed has its name's number
       higher-emits : Counted f S (openAt (x .place) + 1) → Given gives.Close
-      unfolding emittedBy evsIn recordsOf numbered closingSlot slotOf closed openAt
+      unfolding emittedBy evsIn recordsOf numbered closed
       higher-emits k =
           record {
             state = refl;

@@ -8,15 +8,15 @@
 use Prim.Native.Nat.{ℕ}
 use native.Mathlib.Omega.{arith}
 use mathlib.Core.Logic.{_↔_, _⊎_, inl, inr}
-use mathlib.Core.Path.{_≡_, refl, sym, ap, _∙_, subst}
+use mathlib.Core.Path.{_≡_, refl, sym, ap, _∙_}
 use mathlib.Core.Bool.{Bool, true, false}
 use mathlib.Core.List.{List}
 use lib.Dec.{eqb}
 use borrow.Author.Tests.{eq-eqb}
 use Rattle.choice.specs.When.{when, when-either, when-true, when-false, never}
 use Rattle.xml.specs.Refused.{unended}
-use Rattle.xml.specs.Grammar.{Ev, Br, b0, b1, b2, Document}
-use Rattle.xml.specs.Machine.{Place, State, stands, run}
+use Rattle.xml.specs.Grammar.{Ev, b0, b1, b2, Document}
+use Rattle.xml.specs.Machine.{Place, State, stands}
 use Rattle.xml.specs.Limited.{bounds}
 use Rattle.reading.specs.Exactly.{accepts-exactly}
 use Rattle.modes.specs.declared.Mode.{Mode}
@@ -24,11 +24,10 @@ use Rattle.modes.specs.declared.Mode.the-variants as mode
 use Rattle.modes.specs.declared.Prolog.{Prolog}
 use Rattle.modes.specs.declared.Prolog.the-variants as prolog
 use Rattle.modes.specs.declared.Reader.{Reader}
-use Rattle.modes.specs.Moves.{refuseWith}
 use Rattle.reader.specs.declared.Finished.{Finished}
 use Rattle.reader.specs.Feed.{aroundOnly, wholeAt, finishAnswer}
 use Rattle.text_right.specs.Stands.{placeOf, prologState, endState, amperState, bangState, stateIn, stateOf}
-use Rattle.text_right.specs.Sound.{Inner, Outer, before, after, Back, FitsIn, Fits, Sound}
+use Rattle.text_right.specs.Sound.{Inner, Outer, before, after, Back, FitsIn, Fits}
 use Rattle.text_right.specs.Matched.{place-before, place-after, place-inner}
 use Rattle.reader_right.specs.TextRead.{TextRead, used}
 
@@ -123,7 +122,8 @@ module _ (R : List ℕ) (r : Reader) where
   around-after : Outer (r .place) → isAfter (In mode.Around) ≡ wholeAt (r .place) mode.Around
   unfolding In stateIn isAfter wholeAt aroundOnly when
   around-after (before e) =
-      ap (λ p. isAfter (State.at (placeOf R p) b0)) e ∙ ap (λ p. isAfter (State.at p b0)) (place-before R 0 refl) ∙ ap (λ p. when (eqb p 65_535) true false) (sym e)
+      ap (λ p. isAfter (State.at (placeOf R p) b0)) e ∙ ap (λ p. isAfter (State.at p b0)) (place-before R 0 refl)
+      ∙ ap (λ p. when (eqb p 65_535) true false) (sym e)
   around-after (after e) =
       ap (λ p. isAfter (State.at (placeOf R p) b0)) e ∙ ap (λ p. isAfter (State.at p b0)) (place-after R 65_535 refl)
       ∙ ap (λ p. when (eqb p 65_535) true false) (sym e)

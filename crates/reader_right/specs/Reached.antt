@@ -14,7 +14,7 @@ use mathlib.Core.Bool.{Bool, true, false}
 use mathlib.Core.List.{List, [], _∷_, _++_, append-assoc, append-nil}
 use lib.ListN.{length, take, drop, length-append, length-drop}
 use lib.Seq.{take-add, take-append-seam}
-use Rattle.choice.specs.When.{when, when-known, never}
+use Rattle.choice.specs.When.{when-known}
 use Rattle.xml.specs.Grammar.{Ev}
 use Rattle.xml.specs.Machine.{State, stopped, stands, given, run}
 use Rattle.xml.specs.Limited.{bounds}
@@ -23,13 +23,14 @@ use Rattle.names.specs.Number.{numberOf}
 use Rattle.text_right.specs.Marked.{marksTable}
 use Rattle.modes.specs.declared.Gives.the-variants as gives
 use Rattle.modes.specs.declared.Reader.{Reader}
+use Rattle.modes.specs.Moves.{openAt}
 use Rattle.walk.specs.Turn.{Turned, turned}
 use Rattle.walk.specs.Within.{turned-within, turned-on}
 use Rattle.emit.specs.Emit.{Emitted, emittedBy, emitted}
-use Rattle.reader.specs.Fed.{Going, goneOn, advancedBy, advanced, goesOn, readFor}
+use Rattle.reader.specs.Fed.{Going, advancedBy, advanced, goesOn, readFor}
 use Rattle.reader.specs.Fed.Laws.{More, more-is}
 use Rattle.text_right.specs.Stands.{stateOf, evsOf}
-use Rattle.text_right.specs.Sound.{openAt, Sound}
+use Rattle.text_right.specs.Sound.{Sound}
 use Rattle.text_right.specs.Quiet.{Bytes}
 use Rattle.text_right.specs.Turned.{Turns, turn-right}
 use Rattle.text_right.specs.Below.{Same}
@@ -38,7 +39,7 @@ use Rattle.text_right.specs.Led.{turn-placed, turn-below, turn-long}
 use Rattle.reader_right.specs.Records.{recordsIn, records-more}
 use Rattle.reader_right.specs.Wrote.{Wrote, wrote-long}
 use Rattle.reader_right.specs.Counted.{Counted}
-use Rattle.reader_right.specs.Emits.{Emits, emits, emits-none}
+use Rattle.reader_right.specs.Emits.{emits, emits-none}
 
 -- where a byte is refused nothing is given
 refused-none : {r x : Reader} → Placed r x → 0 < x .refusal → x .gives ≡ gives.Nothing

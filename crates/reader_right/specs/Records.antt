@@ -6,8 +6,8 @@
 --
 -- Assumes nothing. NOT here: what is read of a record (crate meaning, Record).
 use Prim.Native.Nat.{ℕ}
-use mathlib.Core.Path.{_≡_, refl, sym, ap, _∙_}
-use mathlib.Core.List.{List, [], _∷_, _++_, append-assoc}
+use mathlib.Core.Path.{_≡_, refl, ap}
+use mathlib.Core.List.{List, [], _∷_, _++_}
 use Rattle.meaning.specs.Stream as stream
 use Rattle.meaning.specs.Stream.{Event}
 use Rattle.records.specs.Event.{eventBytes}

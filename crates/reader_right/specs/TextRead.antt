@@ -11,14 +11,14 @@
 use Prim.Native.Nat.{ℕ, suc, _+_, _-_, _≤_, _<_}
 use native.Mathlib.Omega.{arith}
 use mathlib.Core.Logic.{_⊎_, inl, inr}
-use mathlib.Core.Path.{_≡_, refl, sym, ap, ap₂, _∙_, subst}
+use mathlib.Core.Path.{_≡_, refl, sym, ap, _∙_, subst}
 use mathlib.Core.Bool.{Bool, true, false}
 use mathlib.Core.List.{List, [], _∷_, _++_, append-assoc, append-nil, append-cancel-left}
 use lib.Dec.{leb, ltb}
 use lib.ListN.{length, take, drop, length-append, length-drop}
-use lib.Seq.{length-take-le, take-at, drop-at, take-nil}
+use lib.Seq.{length-take-le, take-at, drop-at}
 use borrow.Author.Tests.{eq-eqb, leb-true, leb-false, ltb-true, ltb-false}
-use Rattle.choice.specs.When.{when, when-true, when-false, never}
+use Rattle.choice.specs.When.{when-true, when-false, never}
 use Rattle.xml.specs.Refused.{scant}
 use Rattle.xml.specs.Grammar.{Ev}
 use Rattle.xml.specs.Machine.{State, stopped, stands, given, run}
@@ -27,13 +27,14 @@ use Rattle.xml.specs.Limited.{bounds}
 use Rattle.reading.specs.Cut.{cut-anywhere, onward}
 use Rattle.names.specs.Number.{numberOf}
 use Rattle.modes.specs.declared.Reader.{Reader}
+use Rattle.modes.specs.Moves.{openAt}
 use Rattle.slots.specs.Slots.{roomNeeded}
 use Rattle.slots.specs.Slots.Laws.{room-is}
 use Rattle.reader.specs.Fed.{Going, freshReader, moreToRead, goesOn, readFor, begunWith, readOn}
 use Rattle.reader.specs.Feed.{Came, tooScant, untouched, throughout, feedAnswer, feed-scant, feed-read, enough}
-use Rattle.text_right.specs.Marked.{marksTable, table-is}
+use Rattle.text_right.specs.Marked.{table-is}
 use Rattle.text_right.specs.Stands.{stateOf}
-use Rattle.text_right.specs.Sound.{openAt, Sound}
+use Rattle.text_right.specs.Sound.{Sound}
 use Rattle.text_right.specs.Frames.{open-is}
 use Rattle.text_right.specs.Quiet.{Bytes}
 use Rattle.text_right.specs.Turned.{begin-sound, begin-state}

@@ -29,20 +29,20 @@ use Rattle.chars.specs.Marks.{marked}
 use Rattle.slots.specs.Slots.{baseOf, lengthIn, nameIn}
 use Rattle.modes.specs.declared.Mode.the-variants as mode
 use Rattle.modes.specs.declared.Reader.{Reader}
-use Rattle.modes.specs.Moves.{afterPlace}
+use Rattle.modes.specs.Moves.{afterPlace, openAt}
 use Rattle.ends.specs.Ends.{emptiedTick, closed, endedTick, wholeTick, endTick}
 use Rattle.text_right.specs.Marked.{marksTable, name-mark, blank-mark, beyond-mark}
-use Rattle.text_right.specs.Stands.{names, placeOf, endState, stateIn, slotOf, evsIn}
+use Rattle.text_right.specs.Stands.{names, placeOf, endState, stateIn, evsIn}
 use Rattle.text_right.specs.Sound.{Inner, Outer, Kept, Back, Fits}
 use Rattle.text_right.specs.Matched.{Matches, lift, turn, both, by-test, place-before, place-after, place-inner, wordOn, word-step}
 use Rattle.text_right.specs.Frames.{base-is, length-most, kept-less, kept-none}
 
-pub slot-after : slotOf afterPlace ≡ 0
-unfolding slotOf when
+pub slot-after : openAt afterPlace ≡ 0
+unfolding openAt when
 slot-after = refl
 
-pub slot-inner : (p : ℕ) → p ≤ 256 → slotOf p ≡ p
-unfolding slotOf
+pub slot-inner : (p : ℕ) → p ≤ 256 → openAt p ≡ p
+unfolding openAt
 slot-inner p h = when-false _ _ _ (ne-eqb p afterPlace (λ z. omega arith))
 
 -- the place around the innermost element

@@ -25,9 +25,9 @@ use Rattle.choice.specs.When.{when, when-true, when-false, when-known}
 use Rattle.xml.specs.Machine.{Place}
 use Rattle.slots.specs.Slots.{attributeSlot, baseOf, lengthIn, nameIn}
 use Rattle.slots.specs.Slots.Laws.{base-inside}
-use Rattle.modes.specs.Moves.{afterPlace}
+use Rattle.modes.specs.Moves.{afterPlace, openAt}
 use Rattle.text_right.specs.Stands.{names, attsOf, placeOf, begunIn}
-use Rattle.text_right.specs.Sound.{openAt, Kept}
+use Rattle.text_right.specs.Sound.{Kept}
 
 pub base-is : (s : ℕ) → s < 272 → baseOf s ≡ s * 68
 base-is s h = sym (base-inside s h)

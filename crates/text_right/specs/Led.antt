@@ -5,21 +5,20 @@
 --   turn-below           nothing changes in the slots of the elements that are open;  turn-long: the room is as long as it was
 --
 -- Assumes nothing.
-use Prim.Native.Nat.{ℕ, _≤_, _<_}
+use Prim.Native.Nat.{ℕ, _≤_}
 use native.Mathlib.Omega.{arith}
-use mathlib.Core.Path.{_≡_, refl, sym, ap, _∙_, subst}
+use mathlib.Core.Path.{_≡_, refl, ap, _∙_}
 use mathlib.Core.List.{List}
 use lib.Dec.{leb}
 use lib.ListN.{length, getD, drop}
-use borrow.Author.Tests.{leb-false}
 use Rattle.choice.specs.When.{when-known}
 use Rattle.modes.specs.declared.Mode.{Mode}
 use Rattle.modes.specs.declared.Reader.{Reader}
-use Rattle.tick.specs.Tick.{tick}
+use Rattle.modes.specs.Moves.{openAt}
 use Rattle.walk.specs.Walk.{walked}
 use Rattle.walk.specs.Turn.{Turned, tickedAt, hereAfter, turnedFrom, turned}
 use Rattle.text_right.specs.Marked.{marksTable}
-use Rattle.text_right.specs.Sound.{Inner, Outer, Spot, openAt, Back, Fits, Sound}
+use Rattle.text_right.specs.Sound.{Inner, Outer, Spot, Back, Fits, Sound}
 use Rattle.text_right.specs.Frames.{open-is}
 use Rattle.text_right.specs.Quiet.{Bytes}
 use Rattle.text_right.specs.Walked.{walk-sound}

@@ -19,9 +19,9 @@ use Rattle.xml.specs.Machine.{Place, State}
 use Rattle.slots.specs.Slots.{baseOf, lengthIn, nameIn, numbered}
 use Rattle.modes.specs.declared.Mode.the-variants as mode
 use Rattle.modes.specs.declared.Reader.{Reader}
-use Rattle.modes.specs.Moves.{afterPlace}
+use Rattle.modes.specs.Moves.{afterPlace, openAt}
 use Rattle.text_right.specs.Stands.{names, placeOf, stateIn, stateOf}
-use Rattle.text_right.specs.Sound.{Inner, openAt, Kept, Back, Fits, Sound}
+use Rattle.text_right.specs.Sound.{Inner, Kept, Back, Fits, Sound}
 use Rattle.text_right.specs.Frames.{base-is, Out, length-kept, name-kept, open-is}
 
 -- the byte k of slot s, behind the name and its length, is none of the slot j's name

@@ -9,7 +9,7 @@
 use Prim.Native.Nat.{ℕ, _+_, _-_, _≤_, _<_}
 use native.Mathlib.Omega.{arith}
 use mathlib.Core.Path.{_≡_, refl, sym, _∙_}
-use mathlib.Core.Bool.{Bool, true, false}
+use mathlib.Core.Bool.{Bool}
 use mathlib.Core.List.{List}
 use lib.Dec.{eqb, leb}
 use borrow.Author.Tests.{eqb-true, leb-true, leb-false}
@@ -22,16 +22,17 @@ use Rattle.modes.specs.declared.Prolog.{Prolog}
 use Rattle.modes.specs.declared.Prolog.the-variants as prolog
 use Rattle.modes.specs.declared.Gives.the-variants as gives
 use Rattle.modes.specs.declared.Reader.{Reader}
+use Rattle.modes.specs.Moves.{afterPlace, openAt}
 use Rattle.prolog.specs.Around.{around, startTick, markTick, xmlTick, declaredTick, queryTick}
 use Rattle.prolog.specs.Told as told
 use Rattle.prolog.specs.Told.{pieceTick, toldTick, partTick, partEqualsTick, partValueTick, quotedIn}
 use Rattle.prolog.specs.Tick.{prologTick}
-use Rattle.content.specs.Text.{afterPlace, wideTick, charTick, dataTick, bangTick, noteTick, remarkedTick, entityTick, amperTick}
+use Rattle.content.specs.Text.{wideTick, charTick, dataTick, bangTick, noteTick, remarkedTick, entityTick, amperTick}
 use Rattle.tags.specs.Markup.{Ticked, begun, slashedTick, markupTick, firstTick}
 use Rattle.tags.specs.Tag.{nameByte, tagEnd, tagTick, taggedTick, attBegun, gapTick, namedTick, attTick, equalsTick, valueTick, attEnded, quotedTick}
 use Rattle.ends.specs.Ends.{emptiedTick, closed, endedTick, wholeTick, endTick}
 use Rattle.tick.specs.Tick.{tickIn, tick}
-use Rattle.text_right.specs.Sound.{Inner, openAt, Back, Fits, Sound}
+use Rattle.text_right.specs.Sound.{Inner, Back, Fits, Sound}
 use Rattle.text_right.specs.Frames.{open-is}
 
 pub after-none : openAt afterPlace ≡ 0
@@ -62,7 +63,9 @@ pub ruleset placing = (moved, either, either-ticked)
 
 module _ (M : List ℕ) (r : Reader) (b : ℕ) (R : List ℕ) where
   prolog-placed : (p : Prolog) → Placed r (prologTick p M r b)
-  unfolding prologTick startTick around markTick xmlTick declaredTick queryTick pieceTick toldTick partTick partEqualsTick partValueTick quotedIn told.quotedTick
+  unfolding
+      prologTick startTick around markTick xmlTick declaredTick queryTick pieceTick toldTick partTick partEqualsTick partValueTick quotedIn
+      told.quotedTick
   prolog-placed prolog.Start = search placing depth 20
   prolog-placed prolog.Mark = search placing depth 20
   prolog-placed prolog.Fresh = search placing depth 20
@@ -80,7 +83,8 @@ module _ (M : List ℕ) (r : Reader) (b : ℕ) (R : List ℕ) where
   remarked-placed : Placed r (remarkedTick r b)
   unfolding remarkedTick
   remarked-placed =
-      either r _ _ _ (either r _ _ _ (Placed.still refl refl) (either r _ _ _ (Placed.still refl refl) (Placed.remarked refl refl refl))) (Placed.still refl refl)
+      either r _ _ _ (either r _ _ _ (Placed.still refl refl) (either r _ _ _ (Placed.still refl refl) (Placed.remarked refl refl refl)))
+      (Placed.still refl refl)
 
   end-placed : Placed r (tagEnd r b)
   unfolding tagEnd
@@ -139,7 +143,8 @@ module _ (M : List ℕ) (r : Reader) (b : ℕ) (R : List ℕ) where
 
   in-placed : {m : Mode} → Fits R r m → In m
   unfolding
-      In tickIn around dataTick wideTick bangTick noteTick entityTick amperTick charTick begun slashedTick markupTick firstTick nameByte tagTick taggedTick attBegun
+      In tickIn around dataTick wideTick bangTick noteTick entityTick amperTick charTick begun slashedTick markupTick firstTick nameByte tagTick taggedTick
+      attBegun
       gapTick namedTick attTick equalsTick valueTick
   in-placed (Fits.prolog′ {p = p} h k) = prolog-placed p
   in-placed (Fits.first h) = search placing depth 20

@@ -1,7 +1,6 @@
 -- What holds of a reader and its room that calls lead to.
 --
 --   Inner p, Outer p, Spot p      the place p is inside the document element, is not, or is any
---   openAt p                      how many elements are open at the place p
 --   Kept R p                      the room is long enough, and the slots below the place p hold names
 --   InTag R p k, InAtt R p k      a tag's name is whole, and k attributes; and the name of one more
 --   Back R p k m                  the mode m is one to which the reader comes back
@@ -28,7 +27,7 @@ use Rattle.modes.specs.declared.Mode.the-variants as mode
 use Rattle.modes.specs.declared.Prolog.{Prolog}
 use Rattle.modes.specs.declared.Prolog.the-variants as prolog
 use Rattle.modes.specs.declared.Reader.{Reader}
-use Rattle.modes.specs.Moves.{afterPlace}
+use Rattle.modes.specs.Moves.{afterPlace, openAt}
 
 pub record Inner (p : ℕ) : Type 0 where
   pub low : 1 ≤ p
@@ -41,9 +40,6 @@ pub data Outer (p : ℕ) : Type 0 where
 pub data Spot (p : ℕ) : Type 0 where
   outer : Outer p → Spot p
   inner : Inner p → Spot p
-
-unfoldable pub openAt : ℕ → ℕ
-openAt p = when (eqb p afterPlace) 0 p
 
 pub record Kept (R : List ℕ) (p : ℕ) : Type 0 where
   pub long : length R ≡ 18_496

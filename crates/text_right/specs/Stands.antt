@@ -10,7 +10,6 @@
 --   derives w rs                 what is left of some rows after the bytes w
 --   prologState, endState, amperState, bangState       the states in some modes
 --   backState, stateIn           the state in a mode to which the reader comes back, and in any;  stateOf r R: in the reader's own
---   slotOf p                     the slot of what was closed, by the place after it
 --   evsIn, evsOf r R             the events that the reader gives
 --
 -- Assumes nothing. NOT here: that each byte leads from state to state (Right).
@@ -34,7 +33,7 @@ use Rattle.modes.specs.declared.Prolog.the-variants as prolog
 use Rattle.modes.specs.declared.Gives.{Gives}
 use Rattle.modes.specs.declared.Gives.the-variants as gives
 use Rattle.modes.specs.declared.Reader.{Reader}
-use Rattle.modes.specs.Moves.{afterPlace}
+use Rattle.modes.specs.Moves.{afterPlace, openAt}
 
 unfoldable pub names : List ℕ → ℕ → List (List ℕ)
 names R zero = []
@@ -169,14 +168,11 @@ module _ (R : List ℕ) (back : Mode) (place count row n : ℕ) where
 abbrev pub stateOf : Reader → List ℕ → State
 stateOf r R = stateIn R (r .back) (r .place) (r .count) (r .row) (r .n) (r .mode)
 
-unfoldable pub slotOf : ℕ → ℕ
-slotOf p = when (eqb p afterPlace) 0 p
-
 unfoldable pub evsIn : List ℕ → ℕ → Gives → List Ev
 evsIn R p gives.Nothing = []
 evsIn R p gives.Open = opens (nameIn R (p - 1)) ∷ []
-evsIn R p gives.Close = closes (nameIn R (slotOf p)) ∷ []
-evsIn R p gives.Both = opens (nameIn R (slotOf p)) ∷ closes (nameIn R (slotOf p)) ∷ []
+evsIn R p gives.Close = closes (nameIn R (openAt p)) ∷ []
+evsIn R p gives.Both = opens (nameIn R (openAt p)) ∷ closes (nameIn R (openAt p)) ∷ []
 evsIn R p gives.Remark = remark ∷ []
 
 abbrev pub evsOf : Reader → List ℕ → List Ev

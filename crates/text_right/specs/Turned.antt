@@ -21,13 +21,14 @@ use Rattle.xml.specs.Limited.{bounds}
 use Rattle.modes.specs.declared.Mode.the-variants as mode
 use Rattle.modes.specs.declared.Prolog.the-variants as prolog
 use Rattle.modes.specs.declared.Reader.{Reader}
+use Rattle.modes.specs.Moves.{openAt}
 use Rattle.tags.specs.Markup.{Ticked}
 use Rattle.tick.specs.Tick.{tick}
 use Rattle.walk.specs.Walk.{walked}
 use Rattle.walk.specs.Turn.{Turned, tickedAt, hereAfter, turnedFrom, turned}
 use Rattle.text_right.specs.Marked.{marksTable}
 use Rattle.text_right.specs.Stands.{prologState, stateIn, stateOf, evsIn, evsOf}
-use Rattle.text_right.specs.Sound.{openAt, FitsIn, Fits, Sound}
+use Rattle.text_right.specs.Sound.{FitsIn, Fits, Sound}
 use Rattle.text_right.specs.Matched.{Matches, Ticks}
 use Rattle.text_right.specs.Frames.{open-is}
 use Rattle.text_right.specs.Right.{tick-right}
@@ -119,5 +120,6 @@ module _ (r : Reader) (R t : List ℕ) (at : ℕ) (s : Sound r R) (bytes : Bytes
       (λ e. Turns.on (q .over) refl left (ap (λ u. run bounds u (stateOf r R)) (sym (append-nil (q .over))) ∙ over []) ok)
       (λ e.
       let k : walked marksTable r at (drop at t) R .at < length t = leb-false _ _ e in
-      ticked-right (stateOf r R) (stateOf (hereAfter r w) (w .room)) t (q .over) at (w .at) left over (tick marksTable (hereAfter r w) (getD t (w .at) 0) (w .room)) k
+      ticked-right (stateOf r R) (stateOf (hereAfter r w) (w .room)) t (q .over) at (w .at) left over
+      (tick marksTable (hereAfter r w) (getD t (w .at) 0) (w .room)) k
       (tick-right (hereAfter r w) (w .room) (getD t (w .at) 0) ok (bytes .each (w .at) k)))

@@ -11,8 +11,7 @@ use mathlib.Core.Path.{_≡_, sym, ap, _∙_, subst}
 use mathlib.Core.Bool.{true, false}
 use mathlib.Core.List.{List, _++_}
 use lib.Dec.{eqb}
-use lib.ListN.{length, getD, drop, length-append, List·getD-append}
-use lib.Seq.{drop-append-seam}
+use lib.ListN.{length, getD, length-append, List·getD-append}
 use borrow.Author.Tests.{ne-eqb, eq-eqb, lt-leb}
 use Rattle.choice.specs.When.{when-true, when-false}
 use Rattle.xml.specs.Class.{inClass, disjoint, disjointRanges, outOf}
