@@ -2,12 +2,12 @@
 --
 --   isAfter s            the state s is the one behind a whole document;  after-is
 --   fits-after           for a reader and its room that calls lead to this is what the code asks
---   finish-exactly       `finish` refuses nothing exactly if the text is a document
+--   finish-exactly       `finish` refuses nothing exactly if the text is a document;  finish-stops: else it refuses with 44
 --
 -- R is the room. Assumes nothing.
 use Prim.Native.Nat.{ℕ}
 use native.Mathlib.Omega.{arith}
-use mathlib.Core.Logic.{_↔_, _⊎_, inl, inr}
+use mathlib.Core.Logic.{_↔_}
 use mathlib.Core.Path.{_≡_, refl, sym, ap, _∙_}
 use mathlib.Core.Bool.{Bool, true, false}
 use mathlib.Core.List.{List}
@@ -201,11 +201,13 @@ module _ (N X t : List ℕ) (r : Reader) (R : List ℕ) (es : List Ev) (h : Text
         by-whole true (sym asked ∙ ap isAfter s),
   )
 
-  -- 44 is the only other answer
-  pub finish-either : (finishAnswer r .refusal ≡ 0) ⊎ (finishAnswer r .refusal ≡ unended)
-  unfolding when
-  finish-either = go (wholeAt (r .place) (r .mode)) refl
+  -- 44 is the only other answer, and stops the reader
+  pub finish-stops : (finishAnswer r .refusal ≡ 0 → ⊥) → (finishAnswer r .refusal ≡ unended) × (finishAnswer r .reader .refusal ≡ unended)
+  unfolding finishAnswer when
+  finish-stops wrong = go (wholeAt (r .place) (r .mode)) refl
     where
-      go : (b : Bool) → wholeAt (r .place) (r .mode) ≡ b → (finishAnswer r .refusal ≡ 0) ⊎ (finishAnswer r .refusal ≡ unended)
-      go true e = inl (by-whole true e)
-      go false e = inr (by-whole false e)
+      go : (b : Bool) → wholeAt (r .place) (r .mode) ≡ b → (finishAnswer r .refusal ≡ unended) × (finishAnswer r .reader .refusal ≡ unended)
+      go true e = absurd (wrong (by-whole true e))
+      go false e =
+          let z = when-true _ _ _ (eq-eqb (r .refusal) 0 (h .unrefused)) ∙ when-false _ _ _ e in
+          (by-whole false e, ap (λ (a : Finished). a .reader .refusal) z)

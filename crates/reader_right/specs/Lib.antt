@@ -5,3 +5,4 @@ pub mod Emits
 pub mod Reached
 pub mod TextRead
 pub mod Ended
+pub mod Theorem

@@ -3,7 +3,7 @@
 --   goes-on                     a text is read without refusal exactly if it begins a document, or is spent
 --   earliest-within             it is refused at a byte exactly if it goes on without this byte, and with it does not
 --   spent-stops-within          a spent text begins no document, and is refused at whatever byte comes
---   earliest, spent-stops       the same for the reader's own limits;  spent-long: where a spent text ends in a name of 64 bytes
+--   read-exactly, earliest, spent-stops       the same for the reader's own limits;  spent-long: where a spent text ends in a name of 64 bytes
 --
 -- Assumes nothing of the reader's own limits; of others that one element may be open, a name may have one byte, and a tag at most 26 attributes.
 use Prim.Native.Nat.{ℕ, suc, _+_, _≤_}
@@ -155,6 +155,9 @@ one-name = name-taken 1 .1 (omega arith)
 
 few-attributes : (n : ℕ) → T (bounds .atts n) → n ≤ 26
 few-attributes n t = omega (arith, atts-taken n .0 t)
+
+pub read-exactly : (t : List ℕ) → Stands bounds t ↔ (Begins bounds t ⊎ Spent bounds t)
+read-exactly = goes-on bounds one-open one-name few-attributes
 
 pub earliest :
     (t : List ℕ) (b : ℕ)

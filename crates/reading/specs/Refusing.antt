@@ -2,7 +2,7 @@
 --
 --   Stands L t             the reader goes through t
 --   Came L t k             what came of t from the state k: one of the two results
---   refused-stands         where a byte is refused, the text before it is not
+--   refused-reads, refused-stands      where a byte is refused, the text before it is not, and has the same events
 --   step-refused, step-goes      a refused step is a refused byte, and any other is none
 --   refused-anywhere       a byte is refused whatever stands behind it
 --
@@ -38,10 +38,16 @@ came L t k = go (run L t k) refl
 pub never-both : {A : Type 0} {es fs : List Ev} {k : State} {r : ℕ} {v : List ℕ} → stands es k ≡ stopped fs r v → A
 never-both e = let z : _≡_ {A = ℕ} 0 1 = cc in absurd (omega arith)
 
+pub refused-reads :
+    (L : Limits) (r : ℕ) (t : List ℕ) (b : ℕ) (es : List Ev)
+    → run L (t ++ (b ∷ [])) State.start ≡ stopped es r (b ∷ [])
+    → (k : State) × (run L t State.start ≡ stands es k)
+refused-reads L r t b es h =
+    let (u, k, x, y) = stopped-after L (t ++ (b ∷ [])) State.start es r (b ∷ []) h in
+    (k, ap (λ z. run L z State.start) (snoc-same t u b b x .0) ∙ y)
+
 pub refused-stands : (L : Limits) (r : ℕ) (t : List ℕ) (b : ℕ) → RefusedAt L r t b → Stands L t
-refused-stands L r t b h =
-    let (u, k, x, y) = stopped-after L (t ++ (b ∷ [])) State.start (h .evs) r (b ∷ []) (h .refuses) in
-    record { evs = h .evs; state = k; reads = ap (λ z. run L z State.start) (snoc-same t u b b x .0) ∙ y }
+refused-stands L r t b h = let (k, e) = refused-reads L r t b (h .evs) (h .refuses) in record { evs = h .evs; state = k; reads = e }
 
 pub step-refused :
     (L : Limits) (r : ℕ) (t : List ℕ) (b : ℕ) (es : List Ev) (k : State)
