@@ -22,7 +22,6 @@ use Rattle.meaning.specs.Query.{Query}
 use Rattle.meaning.specs.Stream.{Event, Stream}
 use Rattle.meaning.specs.Record.Laws.{Records}
 use Rattle.meaning.specs.Answer.{Lent, event, finish, refused, going, answer}
-use Rattle.xml.specs.Refused.{misplaced, unended}
 use Rattle.xml.specs.Grammar.{Ev, Document}
 use Rattle.xml.specs.Limited.{bounds}
 use Rattle.xml.specs.Sentences.{Begins, Spent, RefusedAt}

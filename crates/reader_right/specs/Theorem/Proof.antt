@@ -16,12 +16,9 @@ use lib.ListN.{length, take, drop, length-append, take-append-drop}
 use lib.Seq.{length-take-le, take-append-seam, take-append-add, drop-append-seam}
 use borrow.Author.Tests.{ltb-true, ltb-false}
 use Rattle.choice.specs.When.{never}
-use Rattle.meaning.specs.Query.{Query}
-use Rattle.meaning.specs.Stream.{Event, Stream}
-use Rattle.meaning.specs.Record.Laws.{Records}
-use Rattle.meaning.specs.Answer.{Lent, event, finish, going, answer}
+use Rattle.meaning.specs.Stream.{Stream}
 use Rattle.meaning.specs.Answer as meaning
-use Rattle.xml.specs.Refused.{scant, unended}
+use Rattle.xml.specs.Refused.{scant}
 use Rattle.xml.specs.Bounds.{remarkName}
 use Rattle.xml.specs.Grammar.{Ev, opens, closes, remark, Document}
 use Rattle.xml.specs.Limited.{bounds}
@@ -41,10 +38,10 @@ use Rattle.names.specs.First.{firstPlace}
 use Rattle.names.specs.Number.{numberOf}
 use Rattle.names.specs.Number.Laws.{number-within}
 use Rattle.modes.specs.declared.Reader.{Reader}
-use Rattle.modes.specs.Moves.{openAt, refuseWith}
+use Rattle.modes.specs.Moves.{openAt}
 use Rattle.reader.specs.declared.Fed as answered
 use Rattle.reader.specs.declared.Finished.{Finished}
-use Rattle.reader.specs.Feed.{Came, tooScant, untouched, feedAnswer, finishAnswer, FeedGives, FinishGives, feed-scant, feed-stopped}
+use Rattle.reader.specs.Feed.{Came, tooScant, finishAnswer, FeedGives, FinishGives, feed-scant, feed-stopped}
 use Rattle.text_right.specs.Stands.{stateOf}
 use Rattle.text_right.specs.Sound.{Sound}
 use Rattle.text_right.specs.Quiet.{Bytes}
