@@ -144,7 +144,9 @@ module _ (N X : List ℕ) where
       λ e. (h .es, finish-exactly N X t r R (h .es) (h .read) .0 (sym same-refusal ∙ e)),
       λ d.
           same-refusal
-          ∙ finish-exactly N X t r R (h .es) (h .read) .1 (subst (Document bounds t) (sym (one-reading t bs (h .es) (stateOf r (used R)) (h .read .reads) (d .0) (d .1))) (d .1)),
+          ∙ finish-exactly N X t r R (h .es) (h .read) .1
+          (subst (Document bounds t) (sym (one-reading t bs (h .es) (stateOf r (used R)) (h .read .reads) (d .0) (d .1)))
+          (d .1)),
     )
 
     unended-so : (a .refusal ≡ 0 → ⊥) → (a .refusal ≡ 44) × (a .reader .refusal ≡ 44)
@@ -198,7 +200,8 @@ module _ (N X : List ℕ) where
               earliest = earliest (stoppedAt t u c) b .0 (c .refusal, at);
               sentence = sentence-so b at (ℕ-discrete (c .refusal) 30);
               events =
-                  events-of (stoppedAt t u c) (bs ++ take (c .written) out′) (before .es ++ fs) (reads .0) (reads .1) (more-written u (x .S) out before (x .bytes) (x .same) (x .gives) fs (wrote-first (k .wrote)));
+                  events-of (stoppedAt t u c) (bs ++ take (c .written) out′) (before .es ++ fs) (reads .0) (reads .1)
+                  (more-written u (x .S) out before (x .bytes) (x .same) (x .gives) fs (wrote-first (k .wrote)));
               stops = q;
             }
 
