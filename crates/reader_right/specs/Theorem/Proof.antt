@@ -39,6 +39,7 @@ use Rattle.names.specs.Number.{numberOf}
 use Rattle.names.specs.Number.Laws.{number-within}
 use Rattle.modes.specs.declared.Reader.{Reader}
 use Rattle.modes.specs.Moves.{openAt}
+use Rattle.slots.specs.Slots.{roomNeeded}
 use Rattle.reader.specs.declared.Fed as answered
 use Rattle.reader.specs.declared.Finished.{Finished}
 use Rattle.reader.specs.Feed.{Came, tooScant, finishAnswer, FeedGives, FinishGives, feed-scant, feed-stopped}
@@ -46,7 +47,7 @@ use Rattle.text_right.specs.Stands.{stateOf}
 use Rattle.text_right.specs.Sound.{Sound}
 use Rattle.text_right.specs.Quiet.{Bytes}
 use Rattle.reader_right.specs.Records.{recordsOf, recordsIn, records-more}
-use Rattle.reader_right.specs.Wrote.{wrote-first}
+use Rattle.reader_right.specs.Wrote.{wrote-first, wrote-rest}
 use Rattle.reader_right.specs.Counted.{Counted}
 use Rattle.reader_right.specs.TextRead.{TextRead, used, text-begun, FeedCame, feed-came, feed-on}
 use Rattle.reader_right.specs.TextRead as came
@@ -205,6 +206,17 @@ module _ (N X : List ℕ) where
               stops = q;
             }
 
+    touches-so : (drop (c .written) out′ ≡ drop (c .written) out) × (drop roomNeeded (x .S′) ≡ drop roomNeeded (x .S))
+    unfolding asCame
+    touches-so = go feeds-came
+      where
+        go :
+            FeedCame N X t r (x .S) (before .es) u out (asCame c (x .S′) out′)
+            → (drop (c .written) out′ ≡ drop (c .written) out) × (drop roomNeeded (x .S′) ≡ drop roomNeeded (x .S))
+        go (FeedCame.lent-scant e g) = never (sym (x .enough) ∙ e)
+        go (FeedCame.went fs e y k w) = (wrote-rest (w .wrote), w .past)
+        go (FeedCame.refused fs b w l q j e k) = (wrote-rest (k .wrote), k .past)
+
     -- what is taken is read
     taken-stands : Stands bounds (stoppedAt t u c)
     unfolding asCame
@@ -328,6 +340,7 @@ promised N X =
       never-unfinished = λ {t} {R} {bs} {r} {es} q n h d e. streams.never-unfinished (numberOf N X) (numbering N X) bounds q t es n d e;
       taken = taken-so N X;
       goes-on = goes-on-so N X;
+      touches = touches-so N X;
       document-taken = document-so N X;
       refuses = refuses-so N X;
       no-further = no-further-so N X;
