@@ -4,7 +4,8 @@
 --   BegunFor b session         begin has made the session for the query bytes b, to be used with any room;  Started session: for some query
 --   moreToDo refusal ended written      another turn is taken
 --   TurnTaken file s i E N out s′ i′ E′ N′     a turn: a block of events or a read, by whether a whole record is there; a read leaves the room
---   TurnsSoFar b file s input E N      what the turns have come to, for the query bytes b, in the words of the meaning
+--   EventsSoFar b bytes s input E N    what working on the records of some bytes has come to, for the query bytes b, in the words of the meaning
+--   TurnsSoFar b file s input E N      what the turns have come to: the same for the bytes that reads of a file have given
 --   Streamed b file s E N      what all turns come to, for the query bytes b;  WorkedAll file session s E N: for the query that the session was begun with
 --
 -- Assumes nothing. NOT here: what a read and a block of events make of the state (crate reads, State; crate block, Worked), what offering records comes to
@@ -57,21 +58,25 @@ pub data TurnTaken (file : File) (s : State) (input E N out : List ℕ) (s′ : 
   worked : 8 ≤ s .end - s .from → input′ ≡ input → Worked s input E N out s′ E′ N′ → TurnTaken file s input E N out s′ input′ E′ N′
   read : s .end - s .from < 8 → E′ ≡ E → N′ ≡ N → ReadMore file s input s′ input′ → TurnTaken file s input E N out s′ input′ E′ N′
 
-pub record TurnsSoFar (b : List ℕ) (file : File) (s : State) (input E N : List ℕ) : Type 0 where
-  -- what the reads have given, end to end, and what is listed for it
-  pub bytes : List ℕ
+pub record EventsSoFar (b bytes : List ℕ) (s : State) (input E N : List ℕ) : Type 0 where
+  -- what is listed for it
   pub nodes : List ℕ
-  pub received : Received file bytes
   pub offered : Progress b [] bytes (housed (s .session) E N) (s .taken) (s .refusal) nodes
   pub enough : Enough (housed (s .session) E N)
   pub rest : unread s input ≡ drop (8 * s .taken) bytes
+  pub delivered : s .written ≡ true → Delivered (linesOf nodes)
+  pub failed : s .written ≡ false → Failed
+
+pub record TurnsSoFar (b : List ℕ) (file : File) (s : State) (input E N : List ℕ) : Type 0 where
+  -- what the reads have given, end to end
+  pub bytes : List ℕ
+  pub received : Received file bytes
+  pub events : EventsSoFar b bytes s input E N
   -- a read has given nothing; then nothing is left over or it was refused
   pub at-end : s .ended ≡ true → ReadOver file
   pub over : s .ended ≡ true → s .refusal ≡ 0 → length bytes ≤ 8 * s .taken
   -- else only a whole record is refused
   pub whole : s .ended ≡ false → (s .refusal ≡ 0 → ⊥) → 8 * s .taken + 8 ≤ length bytes
-  pub delivered : s .written ≡ true → Delivered (linesOf nodes)
-  pub failed : s .written ≡ false → Failed
 
 -- the whole stream, for the query bytes b
 pub record Streamed (b : List ℕ) (file : File) (s : State) (E N : List ℕ) : Type 0 where

@@ -100,7 +100,7 @@ returns c =
     record {
       few = so-far-few (u (begun .query) (begun .begun));
       streamed = λ t b o. so-far-streamed (u b o) stop t;
-      failed = λ t. u (begun .query) (begun .begun) .failed t;
+      failed = λ t. u (begun .query) (begun .begun) .events .failed t;
     }
 
 pub work-all-spec : {M : Type 1} → statement M

@@ -45,10 +45,10 @@ use Rattle.turns.specs.Progress.{Progress}
 use Rattle.turns.specs.Progress.Laws.{progress-none, progress-more, progress-short, progress-all, progress-refused, progress-same}
 use Rattle.turns.specs.Progress.Laws.{progress-going, progress-count, progress-few}
 use Rattle.turns.specs.Progress.Block.{Enough, BlockProgress, fed-progress, then-fed}
-use Rattle.turns.specs.Turns.{refusalOf, moreToDo, TurnTaken, worked, read, TurnsSoFar, Streamed}
+use Rattle.turns.specs.Turns.{refusalOf, moreToDo, TurnTaken, worked, read, EventsSoFar, TurnsSoFar, Streamed}
 
 -- nothing is listed before the first event
-listed-none : (q : Query) → listed q (document []) ≡ []
+pub listed-none : (q : Query) → listed q (document []) ≡ []
 unfolding listed standings standingsOf selections marks marksRow document run listedFrom
 listed-none q = refl
 
@@ -96,40 +96,101 @@ progress-as e f g o = rw (e, f, g) o
 
 -- before the first turn
 
-pub begun-so-far :
-    {b : List ℕ} (file : File) (session : Session) (input E N : List ℕ) → Enough (housed session E N) → Of b (meaning.going []) (housed session E N) →
-    TurnsSoFar b file (record { session = session; from = 0; end = 0; taken = 0; refusal = 0; ended = false; written = true }) input E N
+pub begun-events :
+    {b : List ℕ} (session : Session) (input E N : List ℕ) → Enough (housed session E N) → Of b (meaning.going []) (housed session E N) →
+    EventsSoFar b [] (record { session = session; from = 0; end = 0; taken = 0; refusal = 0; ended = false; written = true }) input E N
 unfolding linesOf
-begun-so-far file session input E N enough o =
+begun-events session input E N enough o =
     record {
-      bytes = [];
       nodes = [];
-      received = nothing-yet;
       offered = progress-none [] o;
       enough = enough;
       rest = refl;
-      at-end = λ e. never e;
-      over = λ e z. never e;
-      whole = λ e z. absurd (z refl);
       delivered = λ e. none-yet;
       failed = λ e. never (sym e);
     }
 
+pub begun-so-far :
+    {b : List ℕ} (file : File) (session : Session) (input E N : List ℕ) → Enough (housed session E N) → Of b (meaning.going []) (housed session E N) →
+    TurnsSoFar b file (record { session = session; from = 0; end = 0; taken = 0; refusal = 0; ended = false; written = true }) input E N
+begun-so-far file session input E N enough o =
+    record {
+      bytes = [];
+      received = nothing-yet;
+      events = begun-events session input E N enough o;
+      at-end = λ e. never e;
+      over = λ e z. never e;
+      whole = λ e z. absurd (z refl);
+    }
+
 -- how many bytes are unread
 
-unread-length : (s : State) (input : List ℕ) → UnreadWithin s (length input) → length (unread s input) ≡ s .end - s .from
+pub unread-length : (s : State) (input : List ℕ) → UnreadWithin s (length input) → length (unread s input) ≡ s .end - s .from
 unread-length s input w = length-take-le (s .end - s .from) (drop (s .from) input) (omega (arith, length-drop (s .from) input, w .inside))
+
+-- a block of the records that are unread
+
+module _ {b bytes : List ℕ} (s : State) (input E N : List ℕ) (u : EventsSoFar b bytes s input E N) (unrefused : s .refusal ≡ 0) (taking : s .written ≡ true)
+    (w : UnreadWithin s (length input)) where
+  pub offered-so-far : Progress b [] bytes (housed (s .session) E N) (s .taken) 0 (u .nodes)
+  offered-so-far = subst (λ (r : ℕ). Progress b [] bytes (housed (s .session) E N) (s .taken) r (u .nodes)) unrefused (u .offered)
+
+  module _ (out : List ℕ) (s′ : State) (E′ N′ : List ℕ) (b′ : Worked s input E N out s′ E′ N′) where
+    told : BlockProgress b (offered-so-far .events) (unread s input) (length (unread s input) / 8) out (blockOf s input E N out)
+    told = fed-progress (length (unread s input) / 8) (unread s input) out (progress-going offered-so-far) (u .enough) (omega arith)
+
+    more-nodes : List ℕ
+    more-nodes = nodesIn (blockOf s input E N out .listed) (blockOf s input E N out .out)
+
+    pub work-events : EventsSoFar b bytes s′ input E′ N′
+    unfolding more-nodes
+    work-events =
+        let k : ℕ = blockOf s input E N out .taken in
+        let at : 8 * s .taken + 8 * k ≡ 8 * s′ .taken = omega (arith, b′ .taken-so) in
+        record {
+          nodes = u .nodes ++ more-nodes;
+          offered =
+              progress-as (b′ .seat-so) (b′ .taken-so) (b′ .refusal-so) (then-fed offered-so-far (u .enough) (unread s input) out (u .rest));
+          enough = subst Enough (sym (b′ .seat-so)) (told .enough);
+          rest =
+              b′ .left
+              ∙ ap (drop (8 * k)) (u .rest)
+              ∙ drop-drop (8 * k) (8 * s .taken) bytes
+              ∙ ap (λ (n : ℕ). drop n bytes) at;
+          delivered =
+              λ e.
+              subst Delivered (sym (linesOf-append (u .nodes) more-nodes))
+              (delivered (u .delivered taking) (linesOf more-nodes) (subst (WriteTold (linesOf more-nodes)) e (b′ .handed)));
+          failed = λ e. record { bytes = linesOf more-nodes; handed = subst (WriteTold (linesOf more-nodes)) e (b′ .handed) };
+        }
+
+    -- only a whole record is refused
+    pub work-whole : (s′ .refusal ≡ 0 → ⊥) → 8 * s′ .taken + 8 ≤ length bytes
+    work-whole z =
+        omega
+        (arith, told .whole (λ x. z (b′ .refusal-so ∙ x)), ap length (u .rest), length-drop (8 * s .taken) bytes, offered-so-far .within, b′ .taken-so)
+
+    -- so many bytes are unread then
+    pub work-left : length (unread s′ input) ≡ length (unread s input) - 8 * blockOf s input E N out .taken
+    work-left = ap length (b′ .left) ∙ length-drop (8 * blockOf s input E N out .taken) (unread s input)
+
+    pub work-within : 8 * blockOf s input E N out .taken ≤ length (unread s input)
+    work-within = told .offered .within
+
+    -- with room enough an event is taken or refused
+    pub work-some : 8 ≤ s .end - s .from → outputNeeded ≤ length out → s′ .refusal ≡ 0 → 0 < blockOf s input E N out .taken
+    work-some many room z = told .some (omega (arith, unread-length s input w)) room (sym (b′ .refusal-so) ∙ z)
 
 module _ {b : List ℕ} {file : File} (s : State) (input E N : List ℕ) (u : TurnsSoFar b file s input E N)
     (go : moreToDo (s .refusal) (s .ended) (s .written) ≡ true) (w : UnreadWithin s (length input)) where
   g : Going (s .refusal) (s .ended) (s .written)
   g = going (s .refusal) (s .ended) (s .written) go
 
-  so-far : Progress b [] (u .bytes) (housed (s .session) E N) (s .taken) 0 (u .nodes)
-  so-far = subst (λ (r : ℕ). Progress b [] (u .bytes) (housed (s .session) E N) (s .taken) r (u .nodes)) (g .unrefused) (u .offered)
+  so-far : Progress b [] (u .bytes) (housed (s .session) E N) (s .taken) 0 (u .events .nodes)
+  so-far = offered-so-far s input E N (u .events) (g .unrefused) (g .taking) w
 
   all-read : 8 * s .taken + (s .end - s .from) ≡ length (u .bytes)
-  all-read = omega (arith, ap length (u .rest), unread-length s input w, length-drop (8 * s .taken) (u .bytes), so-far .within)
+  all-read = omega (arith, ap length (u .events .rest), unread-length s input w, length-drop (8 * s .taken) (u .bytes), so-far .within)
 
   -- a read
 
@@ -142,23 +203,31 @@ module _ {b : List ℕ} {file : File} (s : State) (input E N : List ℕ) (u : Tu
 
     read-progress :
         (e : Bool) → s′ .ended ≡ e →
-        Progress b [] (u .bytes ++ m .bytes) (housed (s .session) E N) (s .taken) (when e (leftoverOf (s .end - s .from)) 0) (u .nodes)
+        Progress b [] (u .bytes ++ m .bytes) (housed (s .session) E N) (s .taken) (when e (leftoverOf (s .end - s .from)) 0) (u .events .nodes)
     read-progress true e = progress-at-end (progress-more so-far (m .bytes)) few (omega (arith, read-all, ended-none e)) true
     read-progress false e = unfold when in progress-more so-far (m .bytes)
+
+    read-events : EventsSoFar b (u .bytes ++ m .bytes) s′ input′ E N
+    read-events =
+        record {
+          nodes = u .events .nodes;
+          offered = progress-as (ap (λ (x : Session). housed x E N) (m .session-same)) (m .taken-same) (m .refused-so) (read-progress (s′ .ended) refl);
+          enough = u .events .enough;
+          rest =
+              m .behind
+              ∙ ap (λ (x : List ℕ). x ++ m .bytes) (u .events .rest)
+              ∙ sym (drop-append-le (8 * s .taken) (u .bytes) (m .bytes) (so-far .within))
+              ∙ ap (λ (t : ℕ). drop (8 * t) (u .bytes ++ m .bytes)) (sym (m .taken-same));
+          delivered = λ e. u .events .delivered (sym (m .written-same) ∙ e);
+          failed = λ e. u .events .failed (sym (m .written-same) ∙ e);
+        }
 
     read-so-far : TurnsSoFar b file s′ input′ E N
     read-so-far =
         record {
           bytes = u .bytes ++ m .bytes;
-          nodes = u .nodes;
           received = received (u .received) (m .bytes) (m .given);
-          offered = progress-as (ap (λ (x : Session). housed x E N) (m .session-same)) (m .taken-same) (m .refused-so) (read-progress (s′ .ended) refl);
-          enough = u .enough;
-          rest =
-              m .behind
-              ∙ ap (λ (x : List ℕ). x ++ m .bytes) (u .rest)
-              ∙ sym (drop-append-le (8 * s .taken) (u .bytes) (m .bytes) (so-far .within))
-              ∙ ap (λ (t : ℕ). drop (8 * t) (u .bytes ++ m .bytes)) (sym (m .taken-same));
+          events = read-events;
           at-end = m .over;
           whole = λ e z. absurd (z (m .refused-so ∙ when-false (s′ .ended) (leftoverOf (s .end - s .from)) 0 e));
           over =
@@ -166,47 +235,20 @@ module _ {b : List ℕ} {file : File} (s : State) (input E N : List ℕ) (u : Tu
               let none-left : s .end - s .from ≡ 0 =
               leftover-none (s .end - s .from) (sym (m .refused-so ∙ when-true (s′ .ended) (leftoverOf (s .end - s .from)) 0 e) ∙ z) in
               omega (arith, read-all, ended-none e, m .taken-same);
-          delivered = λ e. u .delivered (sym (m .written-same) ∙ e);
-          failed = λ e. u .failed (sym (m .written-same) ∙ e);
         }
 
   -- a block
 
   module _ (out : List ℕ) (s′ : State) (E′ N′ : List ℕ) (b′ : Worked s input E N out s′ E′ N′) where
-    told : BlockProgress b (so-far .events) (unread s input) (length (unread s input) / 8) out (blockOf s input E N out)
-    told = fed-progress (length (unread s input) / 8) (unread s input) out (progress-going so-far) (u .enough) (omega arith)
-
-    more-nodes : List ℕ
-    more-nodes = nodesIn (blockOf s input E N out .listed) (blockOf s input E N out .out)
-
     work-so-far : TurnsSoFar b file s′ input E′ N′
-    unfolding more-nodes
     work-so-far =
-        let k : ℕ = blockOf s input E N out .taken in
-        let at : 8 * s .taken + 8 * k ≡ 8 * s′ .taken = omega (arith, b′ .taken-so) in
         record {
           bytes = u .bytes;
-          nodes = u .nodes ++ more-nodes;
           received = u .received;
-          offered =
-              progress-as (b′ .seat-so) (b′ .taken-so) (b′ .refusal-so) (then-fed so-far (u .enough) (unread s input) out (u .rest));
-          enough = subst Enough (sym (b′ .seat-so)) (told .enough);
-          rest =
-              b′ .left
-              ∙ ap (drop (8 * k)) (u .rest)
-              ∙ drop-drop (8 * k) (8 * s .taken) (u .bytes)
-              ∙ ap (λ (n : ℕ). drop n (u .bytes)) at;
+          events = work-events s input E N (u .events) (g .unrefused) (g .taking) w out s′ E′ N′ b′;
           at-end = λ e. never (sym (b′ .not-ended) ∙ e);
           over = λ e z. never (sym (b′ .not-ended) ∙ e);
-          whole =
-              λ e z.
-              omega
-              (arith, told .whole (λ x. z (b′ .refusal-so ∙ x)), ap length (u .rest), length-drop (8 * s .taken) (u .bytes), so-far .within, b′ .taken-so);
-          delivered =
-              λ e.
-              subst Delivered (sym (linesOf-append (u .nodes) more-nodes))
-              (delivered (u .delivered (g .taking)) (linesOf more-nodes) (subst (WriteTold (linesOf more-nodes)) e (b′ .handed)));
-          failed = λ e. record { bytes = linesOf more-nodes; handed = subst (WriteTold (linesOf more-nodes)) e (b′ .handed) };
+          whole = λ e z. work-whole s input E N (u .events) (g .unrefused) (g .taking) w out s′ E′ N′ b′ z;
         }
 
   pub turn-so-far :
@@ -245,18 +287,21 @@ module _ {b : List ℕ} {file : File} (s : State) (input E N : List ℕ) (u : Tu
   work-less L out s′ E′ N′ long many room x = by (eqb (s′ .refusal) 0) refl
     where
       left : length (unread s′ input) ≡ length (unread s input) - 8 * blockOf s input E N out .taken
-      left = ap length (x .left) ∙ length-drop (8 * blockOf s input E N out .taken) (unread s input)
+      left = work-left s input E N (u .events) (g .unrefused) (g .taking) w out s′ E′ N′ x
 
       few : s .taken + blockOf s input E N out .taken ≤ 2 * nodeLimit
-      few = omega (arith, progress-few (work-so-far out s′ E′ N′ x .offered), x .taken-so)
+      few = omega (arith, progress-few (work-so-far out s′ E′ N′ x .events .offered), x .taken-so)
 
       room-for : (8 * blockOf s input E N out .taken ≤ length (unread s input)) × (length (unread s input) ≤ L)
-      room-for = (told out s′ E′ N′ x .offered .within, omega (arith, long, unread-length s input w, w .inside))
+      room-for = (
+        work-within s input E N (u .events) (g .unrefused) (g .taking) w out s′ E′ N′ x,
+        omega (arith, long, unread-length s input w, w .inside),
+      )
 
       by : (e : Bool) → eqb (s′ .refusal) 0 ≡ e → measure L s′ input < measure L s input
       by true e =
           let some : 0 < blockOf s input E N out .taken =
-          told out s′ E′ N′ x .some (omega (arith, unread-length s input w)) room (sym (x .refusal-so) ∙ eqb-true _ _ e) in
+          work-some s input E N (u .events) (g .unrefused) (g .taking) w out s′ E′ N′ x many room (eqb-true _ _ e) in
           omega (arith, flags, some, left, few, room-for .0, room-for .1, x .taken-so, boolByte-le (eqb (s′ .refusal) 0), boolByte-le (not (s′ .ended)))
       by false e =
           let refused : boolByte (eqb (s′ .refusal) 0) ≡ 0 = ap boolByte e in
@@ -279,36 +324,36 @@ turn-within s input E N out s′ input′ E′ N′ (read few eE eN m) = m .with
 
 module _ {b : List ℕ} {file : File} {s : State} {input E N : List ℕ} (u : TurnsSoFar b file s input E N) where
   pub so-far-few : s .taken ≤ 2 * nodeLimit
-  so-far-few = progress-few (u .offered)
+  so-far-few = progress-few (u .events .offered)
 
   -- the whole stream, by what offering it comes to
   streamed-as :
-      (w : Offering) → offeringAll (decode b) (u .bytes) ≡ w → w .events ≡ u .offered .events → w .refusal ≡ refusalOf (s .refusal) →
+      (w : Offering) → offeringAll (decode b) (u .bytes) ≡ w → w .events ≡ u .events .offered .events → w .refusal ≡ refusalOf (s .refusal) →
       ReadOver file ⊎ ((more : List ℕ) → offeringAll (decode b) (u .bytes ++ more) ≡ offeringAll (decode b) (u .bytes)) → s .written ≡ true →
       Streamed b file s E N
   streamed-as w e ev r end t =
-      let es : offeringAll (decode b) (u .bytes) .events ≡ u .offered .events = ap (λ (x : Offering). x .events) e ∙ ev in
+      let es : offeringAll (decode b) (u .bytes) .events ≡ u .events .offered .events = ap (λ (x : Offering). x .events) e ∙ ev in
       record {
         bytes = u .bytes;
         received = u .received;
-        stop = u .offered .stop;
+        stop = u .events .offered .stop;
         reached =
-            subst (λ (fs : List Event). Of b (record { events = fs; stopped = u .offered .stop }) (housed (s .session) E N)) (sym es)
-            (u .offered .reached);
-        going-on = u .offered .going-on;
-        counted = sym (ap length es ∙ progress-count (u .offered));
+            subst (λ (fs : List Event). Of b (record { events = fs; stopped = u .events .offered .stop }) (housed (s .session) E N)) (sym es)
+            (u .events .offered .reached);
+        going-on = u .events .offered .going-on;
+        counted = sym (ap length es ∙ progress-count (u .events .offered));
         refusal-so = sym (ap (λ (x : Offering). x .refusal) e ∙ r);
         to-end = end;
         delivered =
-            subst Delivered (ap linesOf (u .offered .listing ∙ ap (λ (fs : List Event). listed (decode b) (document fs)) (sym es)))
-            (subst (λ (l : List ℕ). Delivered (linesOf (l ++ u .nodes))) (sym (listed-none (decode b))) (u .delivered t));
+            subst Delivered (ap linesOf (u .events .offered .listing ∙ ap (λ (fs : List Event). listed (decode b) (document fs)) (sym es)))
+            (subst (λ (l : List ℕ). Delivered (linesOf (l ++ u .events .nodes))) (sym (listed-none (decode b))) (u .events .delivered t));
       }
 
   refused-end :
       (ended : Bool) → s .ended ≡ ended → (s .refusal ≡ 0 → ⊥) →
       ReadOver file ⊎ ((more : List ℕ) → offeringAll (decode b) (u .bytes ++ more) ≡ offeringAll (decode b) (u .bytes))
   refused-end true e z = inl (u .at-end e)
-  refused-end false e z = inr (progress-same (u .offered) z (u .whole e z))
+  refused-end false e z = inr (progress-same (u .events .offered) z (u .whole e z))
 
   pub so-far-streamed : moreToDo (s .refusal) (s .ended) (s .written) ≡ false → s .written ≡ true → Streamed b file s E N
   unfolding moreToDo refusalOf
@@ -317,11 +362,11 @@ module _ {b : List ℕ} {file : File} {s : State} {input E N : List ℕ} (u : Tu
       (λ z.
       when-known (λ (x : Bool). x ≡ false → Streamed b file s E N) (s .ended) _ _
       (λ e h.
-      streamed-as _ (progress-all (u .offered) (eqb-true _ _ z) (u .over e (eqb-true _ _ z))) refl
+      streamed-as _ (progress-all (u .events .offered) (eqb-true _ _ z) (u .over e (eqb-true _ _ z))) refl
       (refusal-none (s .refusal) (eqb-true _ _ z)) (inl (u .at-end e)) t)
       (λ e h. never (sym h ∙ t)))
       (λ z h.
-      streamed-as _ (progress-refused (u .offered) (eqb-false _ _ z)) refl (refusal-some (s .refusal) (eqb-false _ _ z))
+      streamed-as _ (progress-refused (u .events .offered) (eqb-false _ _ z)) refl (refusal-some (s .refusal) (eqb-false _ _ z))
       (refused-end (s .ended) refl (eqb-false _ _ z)) t)
       stop
     where

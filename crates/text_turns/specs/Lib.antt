@@ -1,0 +1,4 @@
+pub mod Stand
+pub mod SoFar
+pub mod Picked
+pub mod Over
