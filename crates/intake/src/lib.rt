@@ -49,6 +49,20 @@ pub fn begin() -> Intake
     }
 }
 
+// Room for a list of names and one byte more than a list may have. The length is all that is said of it: a list of that many zeros written out is too much.
+pub fn names_room() -> [u8; 4259646]
+    ensures { λ r. ⌜ length r ≡ 4259646 ⌝ }
+{
+    [0; 4259646]
+}
+
+// Room for its index.
+pub fn index_room() -> [u32; 196602]
+    ensures { λ r. ⌜ length r ≡ 196602 ⌝ }
+{
+    [0; 196602]
+}
+
 // Reads the list of names. Answers how many bytes came; "a file that can't be opened counts as empty".
 pub fn read_names(names: &mut [u8]) -> usize
     ensures { λ r. ⌜ NamesGiven (now (names .exit)) r ⌝ }
