@@ -39,7 +39,7 @@ use Rattle.block.specs.Worked.{blockOf, Worked}
 use Rattle.turns.specs.Progress.{Progress}
 use Rattle.turns.specs.Progress.Laws.{progress-more}
 use Rattle.turns.specs.Progress.Block.{Enough}
-use Rattle.turns.specs.Turns.{BegunFor, EventsSoFar}
+use Rattle.turns.specs.Turns.{BegunFor, Started, EventsSoFar}
 use Rattle.turns.specs.Turns.Laws.{begun-events, unread-length, offered-so-far, work-events, work-whole, work-left, work-within, work-some}
 use Rattle.intake.specs.declared.Intake.{Intake}
 use Rattle.intake.specs.InText.{InText, begun-text, Onward, advance-text}
@@ -253,3 +253,9 @@ pub begun-as :
     → TextSoFar N X file (st .state .session) st input R ev E M
 begun-as N X file session st e input R ev E M room enough =
     subst (λ (s : Stand). TextSoFar N X file (s .state .session) s input R ev E M) (sym e) (begun-so-far N X file session input R ev E M room enough)
+
+pub begun-for-as : (session : Session) (st : Stand) (b : List ℕ) → st ≡ begunWith session → BegunFor b session → BegunFor b (st .state .session)
+begun-for-as session st b e o = subst (λ (s : Stand). BegunFor b (s .state .session)) (sym e) o
+
+pub started-as : (session : Session) (st : Stand) → st ≡ begunWith session → Started session → Started (st .state .session)
+started-as session st e h = record { query = h .query; begun = begun-for-as session st (h .query) e (h .begun) }

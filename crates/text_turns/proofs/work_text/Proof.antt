@@ -14,8 +14,9 @@ use Rattle.turns.specs.Turns.{Started}
 use Rattle.turns.specs.Progress.Laws.{progress-few}
 use Rattle.text_turns.specs.declared.Stand.{Stand}
 use Rattle.text_turns.specs.Stand.{more-is, done-is}
-use Rattle.text_turns.specs.SoFar.{TextSoFar, begun-as, refill-so-far, leftOf, turn-so-far, turn-less}
+use Rattle.text_turns.specs.SoFar.{TextSoFar, begun-as, started-as, begun-for-as, refill-so-far, leftOf, turn-so-far, turn-less}
 use Rattle.text_turns.specs.Over.{over-picked}
+use Rattle.intake.specs.Intake.Laws.{lent-enough}
 use Rattle.text_turns.proofs.work_text.Statement.{statement}
 use Rattle.text_turns.proofs.work_text.Tie as tie
 
@@ -45,43 +46,112 @@ more-to-do-requires : tie.Need-more-to-do-requires Inv-loop μ-loop
 more-to-do-requires c κs = search needs
 
 slice-aggregate-refill : tie.Need-slice-aggregate-refill Inv-loop μ-loop
-slice-aggregate-refill c = ?
+slice-aggregate-refill c = search needs
 
 slice-aggregate-refill-2 : tie.Need-slice-aggregate-refill-2 Inv-loop μ-loop
-slice-aggregate-refill-2 c = ?
+slice-aggregate-refill-2 c = search needs
 
 slice-aggregate-refill-3 : tie.Need-slice-aggregate-refill-3 Inv-loop μ-loop
-slice-aggregate-refill-3 c = ?
+slice-aggregate-refill-3 c = search needs
 
 refill-requires : tie.Need-refill-requires Inv-loop μ-loop
-refill-requires c κs = ?
+refill-requires c κs =
+    let u = c .before .before .before .before .before .loop .inv .1 in
+    (u .in-text .within, (omega arith, omega (arith, u .in-text .few)))
 
 slice-aggregate-work-block : tie.Need-slice-aggregate-work-block Inv-loop μ-loop
-slice-aggregate-work-block c = ?
+slice-aggregate-work-block c = search needs
 
 slice-aggregate-work-block-2 : tie.Need-slice-aggregate-work-block-2 Inv-loop μ-loop
-slice-aggregate-work-block-2 c = ?
+slice-aggregate-work-block-2 c =
+    let l = c .before .before .before .before .before .before .before .before .before .before .before .before .before .before .before .loop in
+    sym (l .inv .0 .0 .1 .1 .1)
 
 work-block-requires : tie.Need-work-block-requires Inv-loop μ-loop
-work-block-requires c κs = ?
+work-block-requires c κs =
+    let far = c .before .before .before .before .before .before .before .before .before .before in
+    let test = far .before .before .before .before in
+    let l = test .before .before .loop in
+    let start = test .before .before .before .before .before .before .before .before .before in
+    let more = more-is _ _ (sym (test .before .more-to-do .ensures) ∙ test .if1 .taken) in
+    let lent =
+    lent-enough (length (l .room)) (length (start .args .index .now)) (length (l .events)) (omega (arith, room-is, l .inv .0 .0 .1 .0)) (start .pre .1 .1 .0)
+    (omega (arith, l .inv .0 .0 .1 .1 .0)) in
+    let y = refill-so-far _ _ _ _ _ _ _ _ _ _ (l .inv .1) more _ _ _ _ lent (search needs) (omega (arith, l .inv .0 .0 .0)) (far .refill .ensures) in
+    let begun = started-as _ _ (test .before .before .before .begin .ensures) (start .pre .1 .1 .1) in
+    (
+      (y .so-far .within, omega (arith, l .inv .0 .0 .1 .1 .1, l .inv .0 .1 .1 .1, start .pre .1 .0)),
+      (omega (arith, c .before .before .before .before .before .before .before .events2 .given), progress-few (y .so-far .worked (begun .query) (begun .begun) .offered)),
+    )
 
 loop-less : tie.Need-loop-less Inv-loop μ-loop
-loop-less c = ?
+loop-less c =
+    let far = c .before .before .before .before .before .before .before in
+    let fill = far .before .before .before .before .before .before .before .before .before .before .before in
+    let test = fill .before .before .before .before in
+    let l = test .before .before .loop in
+    let start = test .before .before .before .before .before .before .before .before .before in
+    let more = more-is _ _ (sym (test .before .more-to-do .ensures) ∙ test .if1 .taken) in
+    let lent =
+    lent-enough (length (l .room)) (length (start .args .index .now)) (length (l .events)) (omega (arith, room-is, l .inv .0 .0 .1 .0)) (start .pre .1 .1 .0)
+    (omega (arith, l .inv .0 .0 .1 .1 .0)) in
+    let y = refill-so-far _ _ _ _ _ _ _ _ _ _ (l .inv .1) more _ _ _ _ lent (search needs) (omega (arith, l .inv .0 .0 .0)) (fill .refill .ensures) in
+    let begun = started-as _ _ (test .before .before .before .begin .ensures) (start .pre .1 .1 .1) in
+    turn-less _ _ _ _ _ _ _ _ _ _ (l .inv .1) more _ _ _ _ y (begun .query) (begun .begun) (l .out) _ _ _ (far .work-block .ensures)
+    (omega (arith, far .before .before .before .before .before .before .before .before .events2 .given)) (omega (arith, output-is, l .inv .0 .0 .1 .1 .1))
 
 loop-again : tie.Need-loop-again Inv-loop μ-loop
-loop-again c = ?
+loop-again c =
+    let far = c .before .before .before .before .before .before .before in
+    let fill = far .before .before .before .before .before .before .before .before .before .before .before in
+    let test = fill .before .before .before .before in
+    let l = test .before .before .loop in
+    let start = test .before .before .before .before .before .before .before .before .before in
+    let more = more-is _ _ (sym (test .before .more-to-do .ensures) ∙ test .if1 .taken) in
+    let lent =
+    lent-enough (length (l .room)) (length (start .args .index .now)) (length (l .events)) (omega (arith, room-is, l .inv .0 .0 .1 .0)) (start .pre .1 .1 .0)
+    (omega (arith, l .inv .0 .0 .1 .1 .0)) in
+    let y = refill-so-far _ _ _ _ _ _ _ _ _ _ (l .inv .1) more _ _ _ _ lent (search needs) (omega (arith, l .inv .0 .0 .0)) (fill .refill .ensures) in
+    let begun = started-as _ _ (test .before .before .before .begin .ensures) (start .pre .1 .1 .1) in
+    let events = far .before .before .before .before .before .before .before .before in
+    (
+      (
+        (events .before .before .input2 .given, (events .before .room2 .given, (events .events2 .given, c .before .before .out2 .given))),
+        (
+          omega (arith, c .before .before .before .before .before .before .elements .given, l .inv .0 .1 .0),
+          (
+            omega (arith, c .before .before .before .before .nodes .given, l .inv .0 .1 .1 .0),
+            omega (arith, c .before .lines .given, l .inv .0 .1 .1 .1),
+          ),
+        ),
+      ),
+      turn-so-far _ _ _ _ _ _ _ _ _ _ (l .inv .1) more _ _ _ _ y (begun .query) (begun .begun) (l .out) _ _ _ (far .work-block .ensures),
+    )
 
 same-length : tie.Need-same-length Inv-loop μ-loop
-same-length c = ?
+same-length c = c .before .before .loop .inv .0 .1 .0
 
 same-length-2 : tie.Need-same-length-2 Inv-loop μ-loop
-same-length-2 c = ?
+same-length-2 c = c .before .before .loop .inv .0 .1 .1 .0
 
 same-length-3 : tie.Need-same-length-3 Inv-loop μ-loop
-same-length-3 c = ?
+same-length-3 c = c .before .before .loop .inv .0 .1 .1 .1
 
 returns : tie.Need-returns Inv-loop μ-loop
-returns c = ?
+returns c =
+    let l = c .before .before .loop in
+    let start = c .before .before .before .before .before .before .before .before .before in
+    let same = c .before .before .before .begin .ensures in
+    let begun = started-as _ _ same (start .pre .1 .1 .1) in
+    let u = l .inv .1 in
+    let stop = sym (c .before .more-to-do .ensures) ∙ c .if1 .left in
+    record {
+      few = progress-few (u .worked (begun .query) (begun .begun) .offered);
+      short = omega (arith, u .in-text .few);
+      picked =
+          λ t b o. over-picked _ _ _ _ _ _ _ _ _ _ u b (begun-for-as _ _ b same o) t (done-is _ _ stop t);
+      failed = λ t. u .worked (begun .query) (begun .begun) .failed t;
+    }
 
 pub work-text-spec : {M : Type 1} → statement M
 work-text-spec =
