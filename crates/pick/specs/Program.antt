@@ -1,6 +1,6 @@
 -- WHAT THE PROGRAM OWES, and what it promises of a run.
 --
---   lastLineOf q w      the last line for a stream that came to w;  lastLineBy: by its refusal;  finishLineOf: where there is none
+--   lastLineOf q w      the last line for a stream that came to w
 --   textOf q w          all that is written for it: a line for each node listed, and the last line
 --   owedOutput qs es    all that is written for the files `query.rec`, whose bytes are qs, and `events.rec`, whose bytes are es;  owedOutputBy: by the
 --                       answer to the query
@@ -31,17 +31,9 @@ use Rattle.meaning.specs.Offering.{Offering, offeringAll}
 use Rattle.query.specs.Answer.{Answer, admitted, refused, refusedAt, answerTo}
 use Rattle.query.specs.Decode.{decode}
 use Rattle.lines.specs.Text.{linesOf, endLine, refusedAtLine, refusedForLine, refusedLine}
+use Rattle.turns.specs.Owed.{finishLineOf, lastLineBy}
 use Rattle.system.specs.declared.File.{File}
 use Rattle.system.specs.Marks.{FileOpened, FileClosed, ReadOver, Received, Delivered, Failed}
-
--- "`end N` with the number handed out"; "for refusal 8 the number of accepted events"
-unfoldable pub finishLineOf : Query → List Event → List ℕ
-finishLineOf q es = when (finished (document es)) (endLine (length (listed q (document es)))) (refusedAtLine unfinished (length es))
-
--- "E is the number of the refused event, counted from 1"
-unfoldable pub lastLineBy : Option ℕ → Query → List Event → List ℕ
-lastLineBy (some r) q es = refusedAtLine r (length es + 1)
-lastLineBy none q es = finishLineOf q es
 
 abbrev pub lastLineOf : Query → Offering → List ℕ
 lastLineOf q w = lastLineBy (w .refusal) q (w .events)

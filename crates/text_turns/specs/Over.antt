@@ -61,9 +61,11 @@ module _ {N X : List ℕ} {file : File} {i : Intake} {input R : List ℕ} {es : 
           let v = drop (i .taken) (h .bytes) ++ more in
           let s = h .read z .reads in
           let whole : h .bytes ++ more ≡ t ++ v =
-              ap (λ (l : List ℕ). l ++ more) (sym (take-append-drop (i .taken) (h .bytes))) ∙ append-assoc t (drop (i .taken) (h .bytes)) more in
-          (_, ap (λ l. events (readText l)) whole ∙ ap events (cut-anywhere bounds t v State.start ∙ ap (λ z. onward bounds z (run bounds v) v) s)
-          ∙ given-events es _)
+          ap (λ (l : List ℕ). l ++ more) (sym (take-append-drop (i .taken) (h .bytes))) ∙ append-assoc t (drop (i .taken) (h .bytes)) more in (
+            _,
+            ap (λ l. events (readText l)) whole ∙ ap events (cut-anywhere bounds t v State.start ∙ ap (λ z. onward bounds z (run bounds v) v) s)
+                ∙ given-events es _,
+          )
       go (no z) =
           ([], ap events (refused-later (h .bytes) es (i .refusal) (drop (i .taken) (h .bytes)) (h .refused-so z) more) ∙ sym (append-nil es))
 

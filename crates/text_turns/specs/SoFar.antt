@@ -113,7 +113,7 @@ module _ (N X : List ℕ) (file : File) (session : Session) where
           let news = recordsIn (numberOf N X) (onward .more) in
           let so-far = offered-so-far (st .state) ev E M v (more .unrefused) (more .taking) (u .within) in
           let all : length recs ≡ 8 * st .state .taken =
-              omega (arith, unread-is b o, unread-length (st .state) ev (u .within), none-left, so-far .within) in
+          omega (arith, unread-is b o, unread-length (st .state) ev (u .within), none-left, so-far .within) in
           let from-0 : st′ .intake .written - 0 ≡ st′ .intake .written = omega arith in
           subst (λ (l : List ℕ). EventsSoFar b l (refilled st (st′ .intake) .state) ev′ E M) (sym (records-more (numberOf N X) (u .es) (onward .more)))
           (record {
@@ -214,9 +214,14 @@ module _ (N X : List ℕ) (file : File) (session : Session) where
         by : (c : Bool) → eqb (s′ .refusal) 0 ≡ c → leftOf worked-on ev < leftOf st ev
         by true e =
             let some = work-some (st .state) ev E M (u .worked b o) unrefused taking (u .within) out s′ E′ M′ x eight wide (eqb-true _ _ e) in
-            omega
-            (arith, some, left-after, work-within (st .state) ev E M (u .worked b o) unrefused taking (u .within) out s′ E′ M′ x, flag,
-            boolByte-le (eqb (s′ .refusal) 0))
+            omega (
+              arith,
+              some,
+              left-after,
+              work-within (st .state) ev E M (u .worked b o) unrefused taking (u .within) out s′ E′ M′ x,
+              flag,
+              boolByte-le (eqb (s′ .refusal) 0),
+            )
         by false e = let last : boolByte (eqb (s′ .refusal) 0) ≡ 0 = ap boolByte e in omega (arith, left-after, flag, last)
 
   -- a whole turn

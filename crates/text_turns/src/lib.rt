@@ -21,14 +21,7 @@ pub struct Stand {
 }
 
 // Whether there is more to do: events that are not worked on, or text that is not read.
-fn more_to_do(
-    refusal: u8,
-    written: bool,
-    from: usize,
-    end: usize,
-    stop: u8,
-    ended: bool,
-) -> bool
+fn more_to_do(refusal: u8, written: bool, from: usize, end: usize, stop: u8, ended: bool) -> bool
     ensures { λ r. ⌜ r ≡ moreBy refusal written from end stop ended ⌝ }
 {
     if refusal != 0 {
@@ -131,7 +124,15 @@ pub fn work_text(
         stand.intake.refusal,
         stand.intake.ended,
     ) {
-        let filled = refill(file, stand, &mut input, names, index, &mut room, &mut events);
+        let filled = refill(
+            file,
+            stand,
+            &mut input,
+            names,
+            index,
+            &mut room,
+            &mut events,
+        );
         let intake = filled.intake;
         let before = filled.state;
         let state = block::work_block(before, &events, elements, nodes, &mut out, lines);

@@ -4,7 +4,8 @@ use borrow.Author.Needs.{needs}
 use native.Mathlib.Omega.{arith}
 use Rattle.meaning.specs.Limits.Laws.{elements-is, nodes-is}
 use Rattle.promise.specs.Promise.{begin-of}
-use Rattle.pick.specs.Program.Laws.{begin-checked, refused-lined, silent-admitted, admitted-lined, answered-by}
+use Rattle.turns.specs.Owed.{begin-checked, answered-by}
+use Rattle.pick.specs.Program.Laws.{refused-lined, silent-admitted, admitted-lined}
 use Rattle.pick.proofs.answer.Statement.{statement}
 use Rattle.pick.proofs.answer.Tie as tie
 

@@ -45,38 +45,9 @@ use Rattle.system.specs.Marks.{FileOpened, FileClosed, ReadOver, WriteTold, Rea
 use Rattle.closing.specs.Line.{queryLine, finishLine, lastLine}
 use Rattle.reads.specs.declared.State.{State}
 use Rattle.turns.specs.Turns.{refusalOf, Streamed}
+use Rattle.turns.specs.Owed.{last-line-owed, query-silent, not-admitted, long-refused}
 use Rattle.pick.specs.Events.{EventsLined}
 use Rattle.pick.specs.Program.{finishLineOf, lastLineBy, owedOutputBy, owedOutput, queryName, eventsName, Lined, Replied, Outcome}
-
--- the last line
-
-finish-by :
-    (x : Bool) (k h n : ℕ) →
-    finishLine (when false (Refused alreadyStopped) (when x (Ended k h) (Refused unfinished))) n ≡ when x (endLine h) (refusedAtLine unfinished n)
-unfolding when
-finish-by true k h n = refl
-finish-by false k h n = refl
-
-finish-owed : {b : List ℕ} {es : List Event} {l : Housed} → Of b (going es) l → finishLine (finish (l .session)) (length es) ≡ finishLineOf (decode b) es
-unfolding finish finishLineOf
-finish-owed {b} {es} {l} o =
-    ap (λ (y : Bool). finishLine (when y (Refused alreadyStopped)
-    (when (l .session .ended) (Ended (l .session .opened) (l .session .handed)) (Refused unfinished))) (length es)) (o .stop)
-    ∙ finish-by (l .session .ended) (l .session .opened) (l .session .handed) (length es)
-    ∙ ap₂ (λ (x : Bool) (h : ℕ). when x (endLine h) (refusedAtLine unfinished (length es))) (ended-is o) (handed-is o)
-
--- finish is asked only where no event was refused, and then the session is not stopped
-pub last-line-owed :
-    {b : List ℕ} {es : List Event} {stop : Bool} {l : Housed} → Of b (record { events = es; stopped = stop }) l → (f : Finish) →
-    f ≡ finish (l .session) → (taken r : ℕ) → (r ≡ 0 → stop ≡ false) → taken ≡ length es → lastLine f taken r ≡ lastLineBy (refusalOf r) (decode b) es
-unfolding lastLineBy refusalOf
-last-line-owed {b} {es} {l = l} o f e taken zero on t =
-    ap (λ (n : ℕ). finishLine f n) t
-    ∙ ap (λ (g : Finish). finishLine g (length es)) e
-    ∙ finish-owed (subst (λ (x : Bool). Of b (record { events = es; stopped = x }) l) (on refl) o)
-last-line-owed o f e taken (suc r) on t =
-    ap (λ (x : Bool). cond x (refusedAtLine (suc r) (taken + 1)) (finishLine f taken)) (lt-ltb 0 (suc r) (omega arith))
-    ∙ ap (λ (n : ℕ). refusedAtLine (suc r) (n + 1)) t
 
 -- the last line for a stream that was worked on whole
 pub streamed-lined :
@@ -102,34 +73,6 @@ query-owed started.Begun qs es h = absurd (omega arith)
 query-owed started.ShortRoom qs es h = refl
 query-owed started.BadLength qs es h = refl
 query-owed (started.BadStep k r) qs es h = refl
-
-refused-long : (n : ℕ) → 0 < length (refusedLine n)
-unfolding refusedLine
-refused-long n = omega arith
-
-refused-for-long : (n k r : ℕ) → 0 < length (refusedForLine n k r)
-unfolding refusedForLine refusalText
-refused-for-long n k r = omega arith
-
-query-silent : (a : Start) → length (queryLine a) ≡ 0 → a ≡ started.Begun
-query-silent started.Begun h = refl
-query-silent started.ShortRoom h = absurd (omega (arith, refused-long shortRoom))
-query-silent started.BadLength h = absurd (omega (arith, refused-long badLength))
-query-silent (started.BadStep k r) h = absurd (omega (arith, refused-for-long badStep k r))
-
-not-admitted : (a : Start) → 0 < length (queryLine a) → said a ≡ admitted → ⊥
-unfolding said
-not-admitted started.Begun h e = omega arith
-not-admitted started.ShortRoom h e = let z : _≡_ {A = ℕ} 0 1 = cc in omega arith
-not-admitted started.BadLength h e = let z : _≡_ {A = ℕ} 0 1 = cc in omega arith
-not-admitted (started.BadStep k r) h e = let z : _≡_ {A = ℕ} 0 1 = cc in omega arith
-
--- with enough room begin answers the query
-pub begin-checked :
-    (query E N : List ℕ) (r : Begun) → elementsNeeded ≤ length E → nodesNeeded ≤ length N → BeginGives query E N r → said (r .answer) ≡ answerTo query
-unfolding startAnswer
-begin-checked query E N r longE longN g =
-    begin-answer query E N r g ∙ when-false (tooSmall (length E) (length N)) _ _ (not-small (length E) (length N) longE longN)
 
 module _ (query : List ℕ) (a : Start) (checked : said a ≡ answerTo query) where
   -- a refused query: its line is all that is owed
@@ -161,22 +104,6 @@ module _ (query : List ℕ) (a : Start) (checked : said a ≡ answerTo query) wh
               ap (λ (x : List ℕ). linesOf (listed (decode query) (document (offeringAll (decode query) (l .bytes) .events))) ++ x) (l .line)
               ∙ ap (λ (x : Answer). owedOutputBy x query (l .bytes)) (sym (ap said silent-admitted) ∙ checked);
         }
-
-pub answered-by : {A B C : Type 0} → (A → B) → A ⊎ C → B ⊎ C
-answered-by f (inl x) = inl (f x)
-answered-by f (inr y) = inr y
-
--- a query that fills the room for one is too long, whatever follows
-
-long-refused : (qs : List ℕ) → 256 < length qs → answerTo qs ≡ refused badLength
-unfolding answerTo ifWrong
-long-refused qs h =
-    let n : ℕ = length qs in
-    let wrong : wrongLength n ≡ true =
-    ap (λ (x : Bool). eqb n 0 || (not (eqb (n % stepBytes) 0) || x)) (lt-ltb longest n (omega arith))
-    ∙ ap (λ (x : Bool). eqb n 0 || x) (or-true (not (eqb (n % stepBytes) 0)))
-    ∙ or-true (eqb n 0) in
-    ap (λ (x : Bool). ifWrong x (judged qs)) wrong
 
 long-same : (qs more es : List ℕ) → 256 < length qs → owedOutput (qs ++ more) es ≡ owedOutput qs es
 unfolding owedOutputBy

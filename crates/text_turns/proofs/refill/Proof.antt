@@ -21,7 +21,7 @@ same-length-3 : tie.Need-same-length-3
 same-length-3 c = search needs
 
 returns-2 : tie.Need-returns-2
-returns-2 c = 
+returns-2 c =
     let came = c .before .before .before .before .before .before .before in
     filled (came .before .before .before .before .before .if1 .left) refl (came .advance .ensures)
 

@@ -78,8 +78,7 @@ work-block-requires c κs =
     lent-enough (length (l .room)) (length (start .args .index .now)) (length (l .events)) (omega (arith, room-is, l .inv .0 .0 .1 .0)) (start .pre .1 .1 .0)
     (omega (arith, l .inv .0 .0 .1 .1 .0)) in
     let y = refill-so-far _ _ _ _ _ _ _ _ _ _ (l .inv .1) more _ _ _ _ lent (search needs) (omega (arith, l .inv .0 .0 .0)) (far .refill .ensures) in
-    let begun = started-as _ _ (test .before .before .before .begin .ensures) (start .pre .1 .1 .1) in
-    (
+    let begun = started-as _ _ (test .before .before .before .begin .ensures) (start .pre .1 .1 .1) in (
       (y .so-far .within, omega (arith, l .inv .0 .0 .1 .1 .1, l .inv .0 .1 .1 .1, start .pre .1 .0)),
       (omega (arith, c .before .before .before .before .before .before .before .events2 .given), progress-few (y .so-far .worked (begun .query) (begun .begun) .offered)),
     )
@@ -113,8 +112,7 @@ loop-again c =
     (omega (arith, l .inv .0 .0 .1 .1 .0)) in
     let y = refill-so-far _ _ _ _ _ _ _ _ _ _ (l .inv .1) more _ _ _ _ lent (search needs) (omega (arith, l .inv .0 .0 .0)) (fill .refill .ensures) in
     let begun = started-as _ _ (test .before .before .before .begin .ensures) (start .pre .1 .1 .1) in
-    let events = far .before .before .before .before .before .before .before .before in
-    (
+    let events = far .before .before .before .before .before .before .before .before in (
       (
         (events .before .before .input2 .given, (events .before .room2 .given, (events .events2 .given, c .before .before .out2 .given))),
         (
