@@ -85,6 +85,26 @@ fn walk(marks: &[u8; 256], r: Reader, text: &[u8], at: usize, room: &mut [u8]) -
     }
 }
 
+// The same reader, copied field by field. Copied as one it has the byte that its fields leave free, and then the loop of a feed keeps it in memory: a twelfth
+// of its time.
+fn copied(r: Reader) -> Reader
+    ensures { λ x. ⌜ x ≡ r ⌝ }
+{
+    let mode = r.mode;
+    let back = r.back;
+    let gives = r.gives;
+    Reader {
+        mode,
+        back,
+        n: r.n,
+        row: r.row,
+        count: r.count,
+        gives,
+        refusal: r.refusal,
+        place: r.place,
+    }
+}
+
 // The bytes that the mode's loop takes, and the one after them. Stops before that byte where it is refused.
 pub fn turn(marks: &[u8; 256], r: Reader, text: &[u8], at: usize, room: &mut [u8]) -> Gone
     requires { ⌜ (at ≤ length (now text)) × (length (now room) ≡ roomNeeded) ⌝ }
@@ -102,7 +122,7 @@ pub fn turn(marks: &[u8; 256], r: Reader, text: &[u8], at: usize, room: &mut [u8
         };
     }
     let b = text[end];
-    let next = tick::tick(marks, here, b, room);
+    let next = copied(tick::tick(marks, here, b, room));
     if next.refusal != 0 {
         return Gone {
             reader: next,
