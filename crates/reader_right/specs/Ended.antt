@@ -2,12 +2,12 @@
 --
 --   isAfter s            the state s is the one behind a whole document;  after-is
 --   fits-after           for a reader and its room that calls lead to this is what the code asks
---   finish-exactly       `finish` refuses nothing exactly if the text is a document;  finish-stops: else it refuses with 44
+--   finish-exactly       `finish` refuses nothing exactly if the text is a document;  finish-stops, finish-either: else it refuses with 44
 --
 -- R is the room. Assumes nothing.
 use Prim.Native.Nat.{ℕ}
 use native.Mathlib.Omega.{arith}
-use mathlib.Core.Logic.{_↔_}
+use mathlib.Core.Logic.{_↔_, _⊎_, inl, inr}
 use mathlib.Core.Path.{_≡_, refl, sym, ap, _∙_}
 use mathlib.Core.Bool.{Bool, true, false}
 use mathlib.Core.List.{List}
@@ -211,3 +211,11 @@ module _ (N X t : List ℕ) (r : Reader) (R : List ℕ) (es : List Ev) (h : Text
       go false e =
           let z = when-true _ _ _ (eq-eqb (r .refusal) 0 (h .unrefused)) ∙ when-false _ _ _ e in
           (by-whole false e, ap (λ (a : Finished). a .reader .refusal) z)
+
+  pub finish-either : (finishAnswer r .refusal ≡ 0) ⊎ (finishAnswer r .refusal ≡ unended)
+  unfolding when
+  finish-either = go (wholeAt (r .place) (r .mode)) refl
+    where
+      go : (b : Bool) → wholeAt (r .place) (r .mode) ≡ b → (finishAnswer r .refusal ≡ 0) ⊎ (finishAnswer r .refusal ≡ unended)
+      go true e = inl (by-whole true e)
+      go false e = inr (by-whole false e)

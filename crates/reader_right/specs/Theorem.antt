@@ -119,6 +119,10 @@ pub record Promised (N X : List ℕ) : Type 0 where
       → (c .taken ≡ length u) ⊎ (length out < c .written + 16)
   pub goes-on :
       {t u R bs out out′ : List ℕ} {r : Reader} {c : answered.Fed} → Feeds N X t u r R bs out c out′ → 0 < length u → (0 < c .taken) ⊎ (0 < c .refusal)
+  -- the output behind what is written, and the room past its needed part, are as they were
+  pub touches :
+      {t u R bs out out′ : List ℕ} {r : Reader} {c : answered.Fed} (x : Feeds N X t u r R bs out c out′)
+      → (drop (c .written) out′ ≡ drop (c .written) out) × (drop roomNeeded (x .S′) ≡ drop roomNeeded (x .S))
   -- nothing of a document is refused
   pub document-taken :
       {t u R bs out out′ : List ℕ} {r : Reader} {c : answered.Fed} {es : List Ev} (v : List ℕ)

@@ -5,13 +5,14 @@
 --   ReadGave file bytes      a call of a function of this crate gave the bytes, which came from reads of the file, end to end
 --   ReadOver file            a read of the file that had room gave nothing: the file was at its end, or the read failed
 --   WriteTold bytes taken    the bytes were handed to standard output, and `taken` answers whether all were taken
+--   ErrorTold bytes taken    the same of standard error
 --   Received file bytes      the bytes are pieces, end to end, each of which a call gave
 --   Delivered bytes          the bytes are pieces, end to end, each of which was handed to standard output by a call, and taken
 --   Failed                   bytes were handed to standard output by a call, and not all were taken
 --   ReadAt file at l l′ r    one read of the file into l from at on, which gave r bytes and left l′
 --   ReadFull file l r        reads of the file into l from its start on, which gave r bytes
 --
--- The first five are marks: what they stand for is not said to any other module, and only Marks.Seal makes them. That module is for the proofs of this
+-- The first six are marks: what they stand for is not said to any other module, and only Marks.Seal makes them. That module is for the proofs of this
 -- crate's functions alone (tests/marks/run holds every other file to it), so a function that claims a mark has called a function that gives it. That the
 -- functions of this crate make the call that their mark stands for is read in src/lib.rt, not proved. A mark says that a call was made: not how often, in
 -- which order, or what other calls were made. Assumes nothing. NOT here: what a file has in it, which nothing can say.
@@ -38,6 +39,9 @@ ReadOver file = file ≡ file
 
 pub WriteTold : List ℕ → Bool → Type 0
 WriteTold bytes taken = bytes ≡ bytes
+
+pub ErrorTold : List ℕ → Bool → Type 0
+ErrorTold bytes taken = bytes ≡ bytes
 
 pub data Received (file : File) : List ℕ → Type 0 where
   nothing-yet : Received file []

@@ -4,7 +4,7 @@
 // comes from these functions alone (specs/Marks): these bytes were given by a read, those were handed to a write.
 ghost use Prim.Native.Nat.{_≤_};
 ghost use lib.ListN.{length};
-ghost use Rattle.system.specs.Marks.{FileOpened, FileClosed, WriteTold, ReadAt, ReadFull};
+ghost use Rattle.system.specs.Marks.{FileOpened, FileClosed, WriteTold, ErrorTold, ReadAt, ReadFull};
 
 // A file that was opened for reading, by the system's number for it.
 pub struct File {
@@ -40,6 +40,13 @@ pub fn write(bytes: &[u8]) -> bool
     ensures { λ r. ⌜ WriteTold (now (bytes .entry)) r ⌝ }
 {
     io::write_all(libc::STDOUT_FILENO, bytes)
+}
+
+// Hands bytes to standard error. Answers whether all were taken.
+pub fn write_error(bytes: &[u8]) -> bool
+    ensures { λ r. ⌜ ErrorTold (now (bytes .entry)) r ⌝ }
+{
+    io::write_all(libc::STDERR_FILENO, bytes)
 }
 
 // Closes a file. Nothing more is read of it.

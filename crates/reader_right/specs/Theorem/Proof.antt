@@ -39,6 +39,7 @@ use Rattle.names.specs.Number.{numberOf}
 use Rattle.names.specs.Number.Laws.{number-within}
 use Rattle.modes.specs.declared.Reader.{Reader}
 use Rattle.modes.specs.Moves.{openAt}
+use Rattle.slots.specs.Slots.{roomNeeded}
 use Rattle.reader.specs.declared.Fed as answered
 use Rattle.reader.specs.declared.Finished.{Finished}
 use Rattle.reader.specs.Feed.{Came, tooScant, finishAnswer, FeedGives, FinishGives, feed-scant, feed-stopped}
@@ -46,7 +47,7 @@ use Rattle.text_right.specs.Stands.{stateOf}
 use Rattle.text_right.specs.Sound.{Sound}
 use Rattle.text_right.specs.Quiet.{Bytes}
 use Rattle.reader_right.specs.Records.{recordsOf, recordsIn, records-more}
-use Rattle.reader_right.specs.Wrote.{wrote-first}
+use Rattle.reader_right.specs.Wrote.{wrote-first, wrote-rest}
 use Rattle.reader_right.specs.Counted.{Counted}
 use Rattle.reader_right.specs.TextRead.{TextRead, used, text-begun, FeedCame, feed-came, feed-on}
 use Rattle.reader_right.specs.TextRead as came
@@ -144,7 +145,9 @@ module _ (N X : List ℕ) where
       λ e. (h .es, finish-exactly N X t r R (h .es) (h .read) .0 (sym same-refusal ∙ e)),
       λ d.
           same-refusal
-          ∙ finish-exactly N X t r R (h .es) (h .read) .1 (subst (Document bounds t) (sym (one-reading t bs (h .es) (stateOf r (used R)) (h .read .reads) (d .0) (d .1))) (d .1)),
+          ∙ finish-exactly N X t r R (h .es) (h .read) .1
+          (subst (Document bounds t) (sym (one-reading t bs (h .es) (stateOf r (used R)) (h .read .reads) (d .0) (d .1)))
+          (d .1)),
     )
 
     unended-so : (a .refusal ≡ 0 → ⊥) → (a .refusal ≡ 44) × (a .reader .refusal ≡ 44)
@@ -198,9 +201,21 @@ module _ (N X : List ℕ) where
               earliest = earliest (stoppedAt t u c) b .0 (c .refusal, at);
               sentence = sentence-so b at (ℕ-discrete (c .refusal) 30);
               events =
-                  events-of (stoppedAt t u c) (bs ++ take (c .written) out′) (before .es ++ fs) (reads .0) (reads .1) (more-written u (x .S) out before (x .bytes) (x .same) (x .gives) fs (wrote-first (k .wrote)));
+                  events-of (stoppedAt t u c) (bs ++ take (c .written) out′) (before .es ++ fs) (reads .0) (reads .1)
+                  (more-written u (x .S) out before (x .bytes) (x .same) (x .gives) fs (wrote-first (k .wrote)));
               stops = q;
             }
+
+    touches-so : (drop (c .written) out′ ≡ drop (c .written) out) × (drop roomNeeded (x .S′) ≡ drop roomNeeded (x .S))
+    unfolding asCame
+    touches-so = go feeds-came
+      where
+        go :
+            FeedCame N X t r (x .S) (before .es) u out (asCame c (x .S′) out′)
+            → (drop (c .written) out′ ≡ drop (c .written) out) × (drop roomNeeded (x .S′) ≡ drop roomNeeded (x .S))
+        go (FeedCame.lent-scant e g) = never (sym (x .enough) ∙ e)
+        go (FeedCame.went fs e y k w) = (wrote-rest (w .wrote), w .past)
+        go (FeedCame.refused fs b w l q j e k) = (wrote-rest (k .wrote), k .past)
 
     -- what is taken is read
     taken-stands : Stands bounds (stoppedAt t u c)
@@ -325,6 +340,7 @@ promised N X =
       never-unfinished = λ {t} {R} {bs} {r} {es} q n h d e. streams.never-unfinished (numberOf N X) (numbering N X) bounds q t es n d e;
       taken = taken-so N X;
       goes-on = goes-on-so N X;
+      touches = touches-so N X;
       document-taken = document-so N X;
       refuses = refuses-so N X;
       no-further = no-further-so N X;
