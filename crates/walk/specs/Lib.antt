@@ -1,3 +1,4 @@
 pub mod Walk
 pub mod Turn
 pub mod Within
+pub mod Kinds
