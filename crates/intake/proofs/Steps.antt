@@ -10,17 +10,17 @@ use native.Mathlib.Nat.{sub-zero}
 use native.Mathlib.Omega.{arith}
 use mathlib.Core.Logic.{_⊎_, inl, inr}
 use mathlib.Core.Path.{_≡_, refl, sym, ap, _∙_, subst}
-use mathlib.Core.Bool.{Bool, true, false}
-use mathlib.Core.List.{List, [], append-nil, _++_}
+use mathlib.Core.Bool.{Bool, false}
+use mathlib.Core.List.{List, append-nil, _++_}
 use lib.Dec.{eqb}
-use lib.ListN.{length, getD, take, drop, length-take, length-drop}
+use lib.ListN.{length, getD, take, drop, length-take}
 use lib.Seq.{getD-take, getD-drop, length-take-le}
 use Rattle.text_right.specs.Quiet.{Bytes}
 use Rattle.reader.specs.Feed.{Came, feedAnswer}
 use Rattle.system.specs.declared.File.{File}
-use Rattle.system.specs.Marks.{ReadOver, Received, ReadAt, received}
+use Rattle.system.specs.Marks.{ReadOver, Received, received}
 use Rattle.intake.specs.declared.Intake.{Intake}
-use Rattle.intake.specs.Intake.{longest, unreadText, FedText, Asked, enough, asked, TextCame}
+use Rattle.intake.specs.Intake.{longest, FedText, Asked, enough, asked, TextCame}
 
 pub part-bytes : (l : List ℕ) (a n : ℕ) → ((i : ℕ) → getD l i 0 < 256) → Bytes (take n (drop a l))
 part-bytes l a n b =

@@ -8,10 +8,10 @@
 --   records-same         by a built index the records have the numbers of the list
 --
 -- Assumes nothing.
-use Prim.Native.Nat.{ℕ, _+_, _-_, _≤_, _<_}
+use Prim.Native.Nat.{ℕ, _+_, _-_, _≤_}
 use native.Mathlib.Omega.{arith}
 use mathlib.Core.Logic.{_⊎_, inl, inr}
-use mathlib.Core.Path.{_≡_, refl, sym, ap, ap₂, _∙_, subst}
+use mathlib.Core.Path.{_≡_, refl, sym, ap, ap₂, _∙_}
 use mathlib.Core.Bool.{Bool, true, false}
 use mathlib.Core.List.{List, [], _∷_, _++_}
 use lib.Dec.{eqb}
@@ -21,7 +21,7 @@ use borrow.Author.Tests.{eq-eqb, ne-eqb}
 use Rattle.choice.specs.When.{when, when-true, when-false, never}
 use Rattle.xml.specs.Refused.{unended}
 use Rattle.xml.specs.Grammar.{Ev, b0, opens, closes, remark}
-use Rattle.xml.specs.Machine.{Place, State, stopped, stands}
+use Rattle.xml.specs.Machine.{Place, State, stands}
 use Rattle.xml.specs.Bounds.{remarkName}
 use Rattle.xml.specs.Numbered.{numbered, events}
 use Rattle.xml.specs.Limited.{bounds}
@@ -36,7 +36,6 @@ use Rattle.reader_right.specs.Ended.{isAfter, after-is, finish-exactly, finish-
 use Rattle.system.specs.declared.File.{File}
 use Rattle.system.specs.Marks.{ReadOver, Received}
 use Rattle.intake.specs.declared.Intake.{Intake}
-use Rattle.intake.specs.declared.Verdict.{Verdict}
 use Rattle.intake.specs.Owed.{nothing, verdictBy, readText, textVerdict, textEvents, refused-verdict, refused-events, SameText, refused-same}
 use Rattle.intake.specs.Names.{FileRead}
 use Rattle.intake.specs.Intake.{longest, endOf, verdictFor}
@@ -79,7 +78,9 @@ module _ (N X t : List ℕ) (r : Reader) (R : List ℕ) (es : List Ev) (h : Text
               (let q = sym (h .reads) ∙ accepts-exactly bounds t es .1 (finish-exactly N X t r R es h .0 z) in cc) in
               ap isAfter at
 
-verdict-end : (b : Bool) (n : ℕ) → when (eqb (when b 0 unended) 0) nothing (record { refusal = when b 0 unended; at = n }) ≡ when b nothing (record { refusal = unended; at = n })
+verdict-end :
+    (b : Bool) (n : ℕ) →
+    when (eqb (when b 0 unended) 0) nothing (record { refusal = when b 0 unended; at = n }) ≡ when b nothing (record { refusal = unended; at = n })
 unfolding when
 verdict-end true n = refl
 verdict-end false n = refl

@@ -11,19 +11,17 @@ use Prim.Native.Nat.{ℕ, zero, suc, _+_, _-_, _≤_, _<_}
 use native.Mathlib.Omega.{arith}
 use mathlib.Core.Logic.{_⊎_, inl, inr}
 use mathlib.Core.Path.{_≡_, refl, sym, ap, ap₂, _∙_, subst}
-use mathlib.Core.Bool.{Bool, true, false}
+use mathlib.Core.Bool.{true, false}
 use mathlib.Core.List.{List, [], _∷_, _++_, append-nil, append-assoc}
 use lib.ListN.{length, take, drop, length-append, length-drop, take-append-drop}
-use lib.Seq.{take-add, take-append-le, drop-drop, drop-at, take-length, take-all, drop-nil}
+use lib.Seq.{take-add, take-append-le, drop-drop, drop-at}
 use borrow.Author.Tests.{eqb-true}
 use Rattle.choice.specs.When.{never}
 use Rattle.xml.specs.Grammar.{Ev}
-use Rattle.xml.specs.Machine.{State, stopped, run}
+use Rattle.xml.specs.Machine.{stopped}
 use Rattle.xml.specs.Numbered.{numbered}
-use Rattle.xml.specs.Limited.{bounds}
 use Rattle.names.specs.Number.{numberOf}
 use Rattle.slots.specs.Slots.{roomNeeded}
-use Rattle.chains.specs.Index.{indexWords}
 use Rattle.reader.specs.Feed.{Came, tooScant, feedAnswer}
 use Rattle.reader_right.specs.Records.{recordsOf, recordsIn}
 use Rattle.reader_right.specs.Wrote.{Wrote, wrote-none}
@@ -80,7 +78,8 @@ module _ (N X : List ℕ) (file : File) (i : Intake) (input R : List ℕ) (es : 
   read-so-far : TextRead N X t (i .reader) R es
   read-so-far = h .read going
 
-  module _ (out : List ℕ) (lent : tooScant (length R) (length X) (length out) ≡ false) (i′ : Intake) (R′ out′ : List ℕ) (f : FedText N X i u R out i′ R′ out′) where
+  module _ (out : List ℕ) (lent : tooScant (length R) (length X) (length out) ≡ false) (i′ : Intake) (R′ out′ : List ℕ)
+      (f : FedText N X i u R out i′ R′ out′) where
     abbrev c : Came
     c = feedAnswer N X u (i .reader) R out
 

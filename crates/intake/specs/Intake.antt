@@ -16,7 +16,7 @@ pub mod Laws
 use Prim.Native.Nat.{ℕ, _+_, _-_, _≤_, _<_}
 use mathlib.Core.Logic.{_⊎_}
 use mathlib.Core.Path.{_≡_}
-use mathlib.Core.Bool.{Bool, true, false}
+use mathlib.Core.Bool.{false}
 use mathlib.Core.List.{List, _++_}
 use lib.Dec.{eqb}
 use lib.ListN.{length, take, drop}
@@ -24,7 +24,7 @@ use Rattle.choice.specs.When.{when}
 use Rattle.text_right.specs.Quiet.{Bytes}
 use Rattle.modes.specs.declared.Reader.{Reader}
 use Rattle.reader.specs.Fed.{freshReader}
-use Rattle.reader.specs.Feed.{Came, feedAnswer, finishAnswer}
+use Rattle.reader.specs.Feed.{feedAnswer, finishAnswer}
 use Rattle.system.specs.declared.File.{File}
 use Rattle.system.specs.Marks.{ReadOver, Received, ReadAt}
 use Rattle.intake.specs.declared.Intake.{Intake}

@@ -8,17 +8,16 @@
 --   NamesGiven l n       the file's bytes are the first n of l;  names-read: and with room for one byte more than a list has, that is enough
 --
 -- Assumes nothing. NOT here: which lists are taken (crate listed).
-use Prim.Native.Nat.{ℕ, zero, suc, _+_, _*_, _≤_, _<_}
+use Prim.Native.Nat.{ℕ, suc, _+_, _*_, _≤_, _<_}
 use native.Mathlib.Omega.{arith}
 use mathlib.Core.Logic.{_⊎_, inl, inr}
-use mathlib.Core.Path.{_≡_, refl, ap, _∙_}
+use mathlib.Core.Path.{_≡_, refl, ap}
 use mathlib.Core.Bool.{Bool, true, false}
 use mathlib.Core.List.{List, [], _∷_, _++_}
 use lib.Dec.{ltb}
 use lib.ListN.{length, take, length-append}
 use lib.Seq.{length-take-le}
 use borrow.Author.Tests.{ltb-true, ltb-false}
-use Rattle.xml.specs.Bounds.{nameLimit, listLimit}
 use Rattle.xml.specs.Bounds.Laws.{list-limit-is, name-limit-is}
 use Rattle.listed.specs.Lines.{linesOf, lineAt}
 use Rattle.listed.specs.Lines.Joined.{joined, lines-joined}

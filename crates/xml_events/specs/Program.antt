@@ -45,7 +45,7 @@ verdictOn names text =
 unfoldable pub owedRecords : List ℕ → List ℕ → List ℕ
 owedRecords names text = when (eqb (listAnswer names .refusal) 0) (textRecords names text) []
 
--- "a refusal as one line to standard error": `refused R at E`
+-- the line is `refused R at E`
 pub data Complained (v : Verdict) : Type 0 where
   silent : v .refusal ≡ 0 → Complained v
   said : (taken : Bool) → ErrorTold (refusedAtLine (v .refusal) (v .at)) taken → Complained v

@@ -94,7 +94,7 @@ fn next_case(fd: i32) -> Case {
     }
 }
 
-// "0: as many as fit"
+// 0 is as many as fit.
 fn block_of(block: usize, fits: usize) -> usize {
     if block == 0 {
         return fits;

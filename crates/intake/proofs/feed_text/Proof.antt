@@ -1,9 +1,9 @@
 -- `intake::feed_text` meets its contract. Assumes nothing.
 use Prim.Native.Nat.{ℕ, _-_, _≤_}
 use native.Mathlib.Omega.{arith}
-use mathlib.Core.Path.{_≡_, sym, ap, subst}
+use mathlib.Core.Path.{_≡_, ap}
 use mathlib.Core.List.{List}
-use lib.ListN.{length, take, drop, length-take}
+use lib.ListN.{take, drop, length-take}
 use borrow.Author.Needs.{needs}
 use Rattle.modes.specs.declared.Reader.{Reader}
 use Rattle.reader.specs.Feed.{Came, feedAnswer}

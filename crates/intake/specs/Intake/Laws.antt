@@ -9,19 +9,19 @@
 use Prim.Native.Nat.{ℕ, zero, suc, _+_, _-_, _≤_}
 use native.Mathlib.Nat.{sub-zero}
 use native.Mathlib.Omega.{arith}
-use mathlib.Core.Path.{_≡_, refl, sym, ap, ap₂, _∙_, subst}
+use mathlib.Core.Path.{_≡_, sym, ap, ap₂, _∙_, subst}
 use mathlib.Core.Bool.{false}
 use mathlib.Core.List.{List, [], _∷_}
 use lib.Dec.{eqb}
-use lib.ListN.{length, take, drop, length-take, length-drop}
+use lib.ListN.{length, take, drop, length-drop}
 use lib.Seq.{length-take-le, drop-drop, take-nil}
 use borrow.Author.Tests.{le-ltb}
-use Rattle.choice.specs.When.{when, when-false, when-either}
+use Rattle.choice.specs.When.{when-false, when-either}
 use Rattle.modes.specs.declared.Reader.{Reader}
 use Rattle.slots.specs.Slots.{roomNeeded}
 use Rattle.chains.specs.Index.{indexWords}
 use Rattle.reader.specs.Fed.{readFor, begunWith, readOn}
-use Rattle.reader.specs.Feed.{Came, tooScant, untouched, throughout, feedAnswer}
+use Rattle.reader.specs.Feed.{Came, tooScant, feedAnswer}
 use Rattle.text_right.specs.Marked.{table-is}
 use Rattle.reader_right.specs.Reached.{read-within}
 use Rattle.intake.specs.declared.Intake.{Intake}

@@ -1,5 +1,4 @@
 -- `xml_events::answer_files` meets its contract: the whole program. Assumes nothing.
-use native.Mathlib.Omega.{arith}
 use Rattle.lines.specs.Put.Laws.{put-taken}
 use Rattle.xml_events.specs.Program.Laws.{outcome-silent, outcome-said}
 use borrow.Author.Needs.{needs}

@@ -11,13 +11,13 @@
 use Prim.Native.Nat.{ℕ, _+_, _≤_, _<_}
 use native.Mathlib.Omega.{arith}
 use mathlib.Core.Logic.{_⊎_, inl, inr}
-use mathlib.Core.Path.{_≡_, refl, sym, ap, _∙_, subst}
+use mathlib.Core.Path.{_≡_, sym, ap, _∙_, subst}
 use mathlib.Core.Bool.{Bool, true, false}
 use mathlib.Core.List.{List, [], _++_}
 use lib.Dec.{eqb}
 use lib.ListN.{length, take}
 use borrow.Author.Tests.{eqb-true, eqb-false, eq-eqb, ne-eqb}
-use Rattle.choice.specs.When.{when, when-true, when-false, when-known, never}
+use Rattle.choice.specs.When.{when-true, when-false, when-known, never}
 use Rattle.xml.specs.Grammar.{Ev}
 use Rattle.xml.specs.Numbered.{numbered}
 use Rattle.listed.specs.Listed.{listAnswer}
@@ -36,13 +36,13 @@ use Rattle.system.specs.declared.File.{File}
 use Rattle.system.specs.Marks.{FileOpened, FileClosed, WriteTold, ErrorTold, Delivered, delivered, none-yet, Failed}
 use Rattle.intake.specs.declared.Intake.{Intake}
 use Rattle.intake.specs.declared.Verdict.{Verdict}
-use Rattle.intake.specs.Owed.{nothing, textEvents, textVerdict, numberIn}
+use Rattle.intake.specs.Owed.{textEvents, textVerdict, numberIn}
 use Rattle.intake.specs.Names.{NamesRead}
 use Rattle.intake.specs.Intake.{longest, begun, Advanced, verdictFor}
 use Rattle.intake.specs.Intake.Laws.{lent-enough}
 use Rattle.intake.specs.InText.{InText, begun-text, Onward, advance-text}
 use Rattle.intake.specs.Less.{textLeft, advance-less}
-use Rattle.intake.specs.Catalogue.{catalogueName, Told, text-told, records-same}
+use Rattle.intake.specs.Catalogue.{catalogueName, text-told, records-same}
 use Rattle.xml_events.specs.Program.{verdictOn, owedRecords, Complained, silent, said, moreToDo, Written, TextLined, Lined, Answered, Outcome}
 
 pub record SoFar (N X : List ℕ) (file : File) (i : Intake) (input R : List ℕ) (written : Bool) : Type 0 where
