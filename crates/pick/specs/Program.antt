@@ -19,19 +19,15 @@ use Prim.Native.Nat.{ℕ, _+_}
 use mathlib.Core.Logic.{_⊎_}
 use mathlib.Core.Path.{_≡_}
 use mathlib.Core.List.{List, [], _∷_, _++_}
-use mathlib.Core.Option.{Option, none, some}
-use lib.ListN.{length, take}
-use Rattle.choice.specs.When.{when}
-use Rattle.meaning.specs.Refusals.{unfinished}
+use lib.ListN.{take}
 use Rattle.meaning.specs.Query.{Query}
-use Rattle.meaning.specs.Document.{finished}
-use Rattle.meaning.specs.Stream.{Event, document}
+use Rattle.meaning.specs.Stream.{document}
 use Rattle.meaning.specs.Standing.{listed}
 use Rattle.meaning.specs.Offering.{Offering, offeringAll}
 use Rattle.query.specs.Answer.{Answer, admitted, refused, refusedAt, answerTo}
 use Rattle.query.specs.Decode.{decode}
-use Rattle.lines.specs.Text.{linesOf, endLine, refusedAtLine, refusedForLine, refusedLine}
-use Rattle.turns.specs.Owed.{finishLineOf, lastLineBy}
+use Rattle.lines.specs.Text.{linesOf, refusedForLine, refusedLine}
+use Rattle.turns.specs.Owed.{lastLineBy}
 use Rattle.system.specs.declared.File.{File}
 use Rattle.system.specs.Marks.{FileOpened, FileClosed, ReadOver, Received, Delivered, Failed}
 

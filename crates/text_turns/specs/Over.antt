@@ -4,12 +4,12 @@
 --   over-picked          after the last turn the text is worked on, and all that it lists is delivered
 --
 -- N and X are the list of names and its index, E and M the room. Assumes nothing.
-use Prim.Native.Nat.{ℕ, zero, suc, _+_, _-_, _*_, _≤_, _<_}
+use Prim.Native.Nat.{ℕ, zero, suc, _+_, _-_, _*_, _≤_}
 use native.Mathlib.Omega.{arith}
 use native.Mathlib.Decide.{ℕ-discrete}
 use mathlib.Core.Logic.{_⊎_, inl, inr}
-use mathlib.Core.Path.{_≡_, refl, sym, ap, ap₂, _∙_, subst}
-use mathlib.Core.Bool.{Bool, true, false}
+use mathlib.Core.Path.{_≡_, refl, sym, ap, _∙_, subst}
+use mathlib.Core.Bool.{true}
 use mathlib.Core.List.{List, [], _++_, append-nil, append-assoc}
 use mathlib.Core.Option.{none, some}
 use lib.ListN.{length, take, drop, length-drop, take-append-drop}
@@ -29,8 +29,8 @@ use Rattle.session.specs.Run.{housed}
 use Rattle.promise.specs.Promise.{Of}
 use Rattle.lines.specs.Text.{linesOf}
 use Rattle.system.specs.declared.File.{File}
-use Rattle.system.specs.Marks.{ReadOver, Received, Delivered, Failed}
-use Rattle.turns.specs.Progress.Laws.{progress-all, progress-refused, progress-same, progress-count, progress-few}
+use Rattle.system.specs.Marks.{ReadOver, Received, Delivered}
+use Rattle.turns.specs.Progress.Laws.{progress-all, progress-refused, progress-same, progress-count}
 use Rattle.turns.specs.Turns.{refusalOf, BegunFor, EventsSoFar}
 use Rattle.turns.specs.Turns.Laws.{listed-none, unread-length}
 use Rattle.intake.specs.declared.Intake.{Intake}
@@ -41,7 +41,7 @@ use Rattle.intake.specs.Catalogue.{Enough, Told, text-told}
 use Rattle.text_turns.specs.declared.Stand.{Stand}
 use Rattle.text_turns.specs.Stand.{Done, event-refused, text-over}
 use Rattle.text_turns.specs.SoFar.{TextSoFar}
-use Rattle.text_turns.specs.Picked.{offeredText, SamePicked, Picked, WorkedText}
+use Rattle.text_turns.specs.Picked.{offeredText, SamePicked, Picked}
 
 -- the events of a result with events before it
 given-events : (es : List Ev) (r : Result) → events (given es r) ≡ es ++ events r
@@ -88,7 +88,8 @@ module _ (N X : List ℕ) (file : File) (session : Session) (st : Stand) (input 
 
   -- by what offering the events of the text comes to
   picked-as :
-      (text : List ℕ) (w : Offering) → Received file text → offeredText b f text ≡ w → w .events ≡ v .offered .events → refusalOf (st .state .refusal) ≡ w .refusal
+      (text : List ℕ) (w : Offering) → Received file text → offeredText b f text ≡ w → w .events ≡ v .offered .events
+      → refusalOf (st .state .refusal) ≡ w .refusal
       → (st .state .refusal ≡ 0 → verdictFor (st .intake) ≡ textVerdict text)
       → ReadOver file ⊎ ((longest ≤ length text) ⊎ ((more : List ℕ) → SamePicked b f text (text ++ more) (st .state .refusal)))
       → Picked b N X file st E M

@@ -25,7 +25,7 @@ use Rattle.lines.specs.Text.{linesOf}
 use Rattle.system.specs.declared.File.{File}
 use Rattle.system.specs.Marks.{ReadOver, Received, Delivered, Failed}
 use Rattle.turns.specs.Turns.{refusalOf, BegunFor}
-use Rattle.intake.specs.Owed.{textEvents, textVerdict, SameText}
+use Rattle.intake.specs.Owed.{textEvents, textVerdict}
 use Rattle.intake.specs.Intake.{longest, verdictFor}
 use Rattle.text_turns.specs.declared.Stand.{Stand}
 

@@ -8,7 +8,7 @@
 --   leftOf st ev         how much is still to come at most;  refill-less, work-less: each turn leaves less
 --
 -- N and X are the list of names and its index, E and M the room, ev the records of events. Assumes nothing.
-use Prim.Native.Nat.{ℕ, zero, suc, _+_, _-_, _*_, _≤_, _<_}
+use Prim.Native.Nat.{ℕ, suc, _+_, _-_, _*_, _≤_, _<_}
 use native.Mathlib.Omega.{arith}
 use mathlib.Core.Logic.{_⊎_, inl, inr}
 use mathlib.Core.Path.{_≡_, refl, sym, ap, ap₂, _∙_, subst}
@@ -16,9 +16,9 @@ use mathlib.Core.Bool.{Bool, true, false}
 use mathlib.Core.List.{List, [], _∷_, _++_}
 use mir.Val.{boolByte}
 use lib.Dec.{eqb}
-use lib.ListN.{length, take, drop, length-append, length-drop}
+use lib.ListN.{length, take, length-append, length-drop}
 use lib.Seq.{drop-at}
-use borrow.Author.Tests.{eq-eqb, ne-eqb, eqb-true, eqb-false}
+use borrow.Author.Tests.{eq-eqb, eqb-true}
 use Rattle.choice.specs.When.{never}
 use Rattle.choice.specs.Count.{boolByte-le}
 use Rattle.meaning.specs.Limits.{outputNeeded}
@@ -36,12 +36,10 @@ use Rattle.system.specs.declared.File.{File}
 use Rattle.reads.specs.declared.State.{State}
 use Rattle.reads.specs.State.{unread, UnreadWithin}
 use Rattle.block.specs.Worked.{blockOf, Worked}
-use Rattle.turns.specs.Progress.{Progress}
 use Rattle.turns.specs.Progress.Laws.{progress-more}
 use Rattle.turns.specs.Progress.Block.{Enough}
 use Rattle.turns.specs.Turns.{BegunFor, Started, EventsSoFar}
 use Rattle.turns.specs.Turns.Laws.{begun-events, unread-length, offered-so-far, work-events, work-whole, work-left, work-within, work-some}
-use Rattle.intake.specs.declared.Intake.{Intake}
 use Rattle.intake.specs.InText.{InText, begun-text, Onward, advance-text}
 use Rattle.intake.specs.Intake.{Advanced}
 use Rattle.intake.specs.Less.{textLeft, advance-less}

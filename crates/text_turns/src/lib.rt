@@ -1,7 +1,7 @@
 // The loop of the program on XML text: it reads, or reads on in the text that has come, and works on the events, until the text ends, a byte or an event is
 // refused, or standard output takes no more.
 ghost use mathlib.Core.Path.{_≡_};
-ghost use Prim.Native.Nat.{_+_, _*_, _≤_};
+ghost use Prim.Native.Nat.{_+_, _≤_};
 ghost use lib.ListN.{length};
 ghost use Rattle.meaning.specs.Limits.{elementsNeeded, nodesNeeded};
 ghost use Rattle.chains.specs.Index.{indexWords};

@@ -11,13 +11,13 @@
 use Prim.Native.Nat.{ℕ, zero, suc, _+_, _%_, _≤_, _<_}
 use native.Mathlib.Omega.{arith}
 use mathlib.Core.Logic.{_⊎_, inl, inr}
-use mathlib.Core.Path.{_≡_, refl, sym, ap, ap₂, _∙_, subst}
+use mathlib.Core.Path.{_≡_, refl, ap, ap₂, _∙_, subst}
 use mathlib.Core.Bool.{Bool, true, false, not, _||_, cond, or-true}
-use mathlib.Core.List.{List, [], _++_}
+use mathlib.Core.List.{List}
 use mathlib.Core.Option.{Option}
-use lib.Dec.{eqb, ltb}
-use lib.ListN.{length, take, length-append}
-use borrow.Author.Tests.{lt-ltb, ltb-true, ltb-false}
+use lib.Dec.{eqb}
+use lib.ListN.{length}
+use borrow.Author.Tests.{lt-ltb}
 use Rattle.choice.specs.When.{when, when-false}
 use Rattle.meaning.specs.Limits.{elementsNeeded, nodesNeeded}
 use Rattle.meaning.specs.Refusals.{shortRoom, alreadyStopped, unfinished, badLength, badStep}
@@ -25,9 +25,8 @@ use Rattle.meaning.specs.Answer.{going, tooSmall}
 use Rattle.meaning.specs.Answer.Laws.{not-small}
 use Rattle.meaning.specs.Stream.{Event, document}
 use Rattle.meaning.specs.Standing.{listed}
-use Rattle.meaning.specs.Offering.{offeringAll}
 use Rattle.query.specs.Rules.{stepBytes, longest, wrongLength}
-use Rattle.query.specs.Answer.{Answer, admitted, refused, judged, ifWrong, answerTo}
+use Rattle.query.specs.Answer.{admitted, refused, judged, ifWrong, answerTo}
 use Rattle.query.specs.Decode.{decode}
 use Rattle.session.specs.declared.Finish.{Finish}
 use Rattle.session.specs.declared.Finish.the-variants.{Refused, Ended}
@@ -38,13 +37,8 @@ use Rattle.session.specs.Begin.{said, startAnswer, BeginGives}
 use Rattle.session.specs.Event.{finish}
 use Rattle.session.specs.Run.{Housed}
 use Rattle.promise.specs.Promise.{Of, begin-answer, ended-is, handed-is}
-use Rattle.lines.specs.Put.{Put}
-use Rattle.lines.specs.Put.Laws.{put-taken}
-use Rattle.lines.specs.Text.{linesOf, endLine, refusalText, refusedAtLine, refusedForLine, refusedLine}
-use Rattle.system.specs.declared.File.{File}
-use Rattle.system.specs.Marks.{FileOpened, FileClosed, ReadOver, WriteTold, ReadFull, received, nothing-yet, Delivered, delivered, none-yet}
+use Rattle.lines.specs.Text.{endLine, refusalText, refusedAtLine, refusedForLine, refusedLine}
 use Rattle.closing.specs.Line.{queryLine, finishLine, lastLine}
-use Rattle.reads.specs.declared.State.{State}
 use Rattle.meaning.specs.Document.{finished}
 use Rattle.meaning.specs.Query.{Query}
 use mathlib.Core.Option.{none, some}

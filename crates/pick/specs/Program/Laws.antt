@@ -7,47 +7,38 @@
 --   outcome-written       the rest is written
 --
 -- Assumes nothing.
-use Prim.Native.Nat.{ℕ, zero, suc, _+_, _%_, _≤_, _<_}
+use Prim.Native.Nat.{ℕ, _+_, _≤_, _<_}
 use native.Mathlib.Omega.{arith}
 use mathlib.Core.Logic.{_⊎_, inl, inr}
-use mathlib.Core.Path.{_≡_, refl, sym, ap, ap₂, _∙_, subst}
-use mathlib.Core.Bool.{Bool, true, false, not, _||_, cond, or-true}
+use mathlib.Core.Path.{_≡_, refl, sym, ap, _∙_, subst}
+use mathlib.Core.Bool.{Bool, true, false}
 use mathlib.Core.List.{List, [], _++_}
 use mathlib.Core.Option.{Option}
-use lib.Dec.{eqb, ltb}
+use lib.Dec.{ltb}
 use lib.ListN.{length, take, length-append}
-use borrow.Author.Tests.{lt-ltb, ltb-true, ltb-false}
-use Rattle.choice.specs.When.{when, when-false}
-use Rattle.meaning.specs.Limits.{elementsNeeded, nodesNeeded}
-use Rattle.meaning.specs.Refusals.{shortRoom, alreadyStopped, unfinished, badLength, badStep}
-use Rattle.meaning.specs.Answer.{going, tooSmall}
-use Rattle.meaning.specs.Answer.Laws.{not-small}
-use Rattle.meaning.specs.Stream.{Event, document}
+use borrow.Author.Tests.{ltb-true, ltb-false}
+use Rattle.meaning.specs.Stream.{document}
 use Rattle.meaning.specs.Standing.{listed}
 use Rattle.meaning.specs.Offering.{offeringAll}
-use Rattle.query.specs.Rules.{stepBytes, longest, wrongLength}
-use Rattle.query.specs.Answer.{Answer, admitted, refused, judged, ifWrong, answerTo}
+use Rattle.query.specs.Answer.{Answer, answerTo}
 use Rattle.query.specs.Decode.{decode}
 use Rattle.session.specs.declared.Finish.{Finish}
-use Rattle.session.specs.declared.Finish.the-variants.{Refused, Ended}
 use Rattle.session.specs.declared.Start.{Start}
 use Rattle.session.specs.declared.Start.the-variants as started
 use Rattle.session.specs.declared.Begun.{Begun}
-use Rattle.session.specs.Begin.{said, startAnswer, BeginGives}
+use Rattle.session.specs.Begin.{said}
 use Rattle.session.specs.Event.{finish}
-use Rattle.session.specs.Run.{Housed}
-use Rattle.promise.specs.Promise.{Of, begin-answer, ended-is, handed-is}
 use Rattle.lines.specs.Put.{Put}
 use Rattle.lines.specs.Put.Laws.{put-taken}
-use Rattle.lines.specs.Text.{linesOf, endLine, refusalText, refusedAtLine, refusedForLine, refusedLine}
+use Rattle.lines.specs.Text.{linesOf}
 use Rattle.system.specs.declared.File.{File}
 use Rattle.system.specs.Marks.{FileOpened, FileClosed, ReadOver, WriteTold, ReadFull, received, nothing-yet, Delivered, delivered, none-yet}
-use Rattle.closing.specs.Line.{queryLine, finishLine, lastLine}
+use Rattle.closing.specs.Line.{queryLine, lastLine}
 use Rattle.reads.specs.declared.State.{State}
-use Rattle.turns.specs.Turns.{refusalOf, Streamed}
+use Rattle.turns.specs.Turns.{Streamed}
 use Rattle.turns.specs.Owed.{last-line-owed, query-silent, not-admitted, long-refused}
 use Rattle.pick.specs.Events.{EventsLined}
-use Rattle.pick.specs.Program.{finishLineOf, lastLineBy, owedOutputBy, owedOutput, queryName, eventsName, Lined, Replied, Outcome}
+use Rattle.pick.specs.Program.{lastLineBy, owedOutputBy, owedOutput, queryName, eventsName, Lined, Replied, Outcome}
 
 -- the last line for a stream that was worked on whole
 pub streamed-lined :

@@ -47,10 +47,11 @@ same-length c = search needs
 returns : tie.Need-returns
 returns c =
     let line = c .before .before .put-refused-at .ensures in
-    let build = c .before .before .before .before .before .before .before .before .build .ensures in
-    let read = c .before .before .before .before .before .before .before .before .before .before .before .before .read-names .ensures in (
+    let test = c .before .before .before .before .before in
+    let build = test .before .before .before in
+    let read = names-read _ _ (build .before .before .before .before .read-names .ensures .0) (omega arith) in (
       inl
-          (λ b o. list-lined _ _ _ _ build (omega (arith, index-words-is)) (names-read _ _ (read .0) (omega arith)) b (c .before .before .before .before .before .if1 .taken) _ _
+          (λ b o. list-lined _ _ _ _ (build .build .ensures) (omega (arith, index-words-is)) read b (test .if1 .taken) _ _
           (put-taken (line .0) (search needs))),
       line .1,
     )
@@ -66,9 +67,9 @@ slice-aggregate-answer-text-2 c = search needs
 
 answer-text-requires : tie.Need-answer-text-requires
 answer-text-requires c κs =
-    let build = c .before .before .before .before .before .before .before .before .build .ensures in
-    let pre = c .before .before .before .before .before .before .before .before .before .before .before .before .before .before .before .before .before .before .before .pre in
-    (pre .0, (pre .1 .0, (omega (arith, index-words-is, build-length _ _ _ _ build), pre .1 .1)))
+    let build = c .before .before .before .before .before .before .before .before in
+    let pre = build .before .before .before .before .before .before .before .before .before .before .before .pre in
+    (pre .0, (pre .1 .0, (omega (arith, index-words-is, build-length _ _ _ _ (build .build .ensures)), pre .1 .1)))
 
 same-length-2 : tie.Need-same-length-2
 same-length-2 c = search needs
@@ -81,13 +82,13 @@ same-length-4 c = search needs
 
 returns-2 : tie.Need-returns-2
 returns-2 c =
-    let text = c .before .before .before .before .before .before .answer-text .ensures in
-    let build = c .before .before .before .before .before .before .before .before .before .before .before .before .before .before .before .build .ensures in
-    let read = c .before .before .before .before .before .before .before .before .before .before .before .before .before .before .before .before .before .before .before .read-names .ensures in (
-      answered-by
-          (λ h b o. names-lined _ _ _ _ build (omega (arith, index-words-is)) (names-read _ _ (read .0) (omega arith)) b (c .before .before .before .before .before .before .before .before .before .before .before .before .if1 .left) _ _ (h b o))
-          (text .0),
-      text .1,
+    let text = c .before .before .before .before .before .before in
+    let test = text .before .before .before .before .before .before in
+    let build = test .before .before .before in
+    let read = names-read _ _ (build .before .before .before .before .read-names .ensures .0) (omega arith) in (
+      answered-by (λ h b o. names-lined _ _ _ _ (build .build .ensures) (omega (arith, index-words-is)) read b (test .if1 .left) _ _ (h b o))
+          (text .answer-text .ensures .0),
+      text .answer-text .ensures .1,
     )
 
 pub answer-names-spec : {M : Type 1} → statement M

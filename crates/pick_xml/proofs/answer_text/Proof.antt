@@ -22,8 +22,10 @@ close-requires c κs = search needs
 
 last-line-requires : tie.Need-last-line-requires
 last-line-requires c κs =
-    let work = c .before .before .before .before .before .before .before .before .before .before .work-text .ensures in
-    (omega (arith, c .before .before .before .before .before .lines .given, c .before .before .before .before .before .before .before .before .before .before .before .before .before .before .before .before .before .before .before .before .before .pre .1 .0), (work .few, work .short))
+    let lines = c .before .before .before .before .before in
+    let work = lines .before .before .before .before .before in
+    let start = work .before .before .before .before .before .before .before .before .before .before .before in
+    (omega (arith, lines .lines .given, start .pre .1 .0), (work .work-text .ensures .few, work .work-text .ensures .short))
 
 same-length : tie.Need-same-length
 same-length c = search needs
@@ -37,11 +39,15 @@ same-length-3 c = search needs
 returns : tie.Need-returns
 returns c =
     let line = c .before .before .last-line .ensures in
-    let work = c .before .before .before .before .before .before .before .before .before .before .before .before .before .work-text .ensures in
-    let opened = c .before .before .before .before .before .before .before .before .before .before .before .before .before .before .before .before .before .«open» .ensures in
-    let closed = c .before .before .before .before .before .before .close .ensures in
-    let written = c .before .before .before .before .if1 .taken in
-    (inl (λ b o. picked-lined (work .picked written b o) opened closed _ _ (put-taken (line .0) (search needs))), line .1)
+    let test = c .before .before .before .before in
+    let closed = test .before .before in
+    let work = closed .before .before .before .before .before .before .before in
+    let opened = work .before .before .before .before .«open» .ensures in (
+      inl
+          (λ b o. picked-lined (work .work-text .ensures .picked (test .if1 .taken) b o) opened (closed .close .ensures) _ _
+          (put-taken (line .0) (search needs))),
+      line .1,
+    )
 
 same-length-4 : tie.Need-same-length-4
 same-length-4 c = search needs

@@ -20,10 +20,10 @@ returns : tie.Need-returns
 returns c =
     let line = c .before .before .last-line .ensures in
     let test = c .before .before .before .before in
-    let f = test .before .before .finish in (
-      put-line (line-refused (c .before .before .before .before .before .before .before .before .before .before .args .stand) (f .result) (finish-is _ (f .result) (f .ensures)) (test .if1 .taken)) (line .0),
-      line .1,
-    )
+    let finished = test .before .before in
+    let st = finished .before .before .before .before .args .stand in
+    let f = finished .finish in
+    (put-line (line-refused st (f .result) (finish-is _ (f .result) (f .ensures)) (test .if1 .taken)) (line .0), line .1)
 
 judge-requires : tie.Need-judge-requires
 judge-requires c κs = search needs
@@ -38,10 +38,14 @@ returns-2 : tie.Need-returns-2
 returns-2 c =
     let line = c .before .before .put-refused-at .ensures in
     let test = c .before .before .before .before in
-    (put-line (line-text (c .before .before .before .before .before .before .before .before .before .before .before .before .before .before .args .stand) (test .before .before .before .before .if1 .left) _ (test .before .before .judge .ensures) (test .if2 .taken)) (line .0), line .1)
+    let none-refused = test .before .before .before .before in
+    let st = none-refused .before .before .before .before .before .before .args .stand in
+    (put-line (line-text st (none-refused .if1 .left) _ (test .before .before .judge .ensures) (test .if2 .taken)) (line .0), line .1)
 
 last-line-requires-2 : tie.Need-last-line-requires-2
-last-line-requires-2 c κs = let pre = c .before .before .before .before .before .before .before .before .before .before .before .pre in (pre .0, omega (arith, pre .1 .0, node-limit-is))
+last-line-requires-2 c κs =
+    let pre = c .before .before .before .before .before .before .before .before .before .before .before .pre in
+    (pre .0, omega (arith, pre .1 .0, node-limit-is))
 
 same-length-3 : tie.Need-same-length-3
 same-length-3 c = search needs
@@ -51,11 +55,10 @@ returns-3 c =
     let line = c .before .before .last-line2 .ensures in
     let test = c .before .before .before .before in
     let none-refused = test .before .before .before .before in
-    let f = none-refused .before .before .finish in (
-      put-line
-          (line-finish (c .before .before .before .before .before .before .before .before .before .before .before .before .before .before .args .stand) (none-refused .if1 .left) (f .result) (finish-is _ (f .result) (f .ensures)) _
-          (test .before .before .judge .ensures) (test .if2 .left))
-          (line .0),
+    let f = none-refused .before .before .finish in
+    let st = none-refused .before .before .before .before .before .before .args .stand in
+    let judged = test .before .before .judge .ensures in (
+      put-line (line-finish st (none-refused .if1 .left) (f .result) (finish-is _ (f .result) (f .ensures)) _ judged (test .if2 .left)) (line .0),
       line .1,
     )
 

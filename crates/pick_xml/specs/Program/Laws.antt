@@ -15,15 +15,14 @@ use mathlib.Core.Path.{_≡_, refl, sym, ap, ap₂, _∙_, subst}
 use mathlib.Core.Bool.{Bool, true, false}
 use mathlib.Core.List.{List, [], _++_}
 use mathlib.Core.Option.{Option, none, some}
-use lib.Dec.{eqb, ltb}
+use lib.Dec.{ltb}
 use lib.ListN.{length, take, length-append}
 use borrow.Author.Tests.{eq-eqb, ne-eqb, ltb-true, ltb-false}
-use Rattle.choice.specs.When.{when, when-true, when-false}
-use Rattle.meaning.specs.Query.{Query}
-use Rattle.meaning.specs.Stream.{Event, document}
+use Rattle.choice.specs.When.{when-true, when-false}
+use Rattle.meaning.specs.Stream.{document}
 use Rattle.meaning.specs.Standing.{listed}
 use Rattle.meaning.specs.Offering.{Offering, offeringAll}
-use Rattle.query.specs.Answer.{Answer, admitted, refused, answerTo}
+use Rattle.query.specs.Answer.{Answer, answerTo}
 use Rattle.query.specs.Decode.{decode}
 use Rattle.listed.specs.Listed.{listAnswer}
 use Rattle.listed.specs.declared.Listing.{Listing}
@@ -31,10 +30,8 @@ use Rattle.chains.specs.Index.{indexWords}
 use Rattle.names.specs.Answer.{BuildGives}
 use Rattle.names.specs.Built.{list-refused, build-finds}
 use Rattle.names.specs.Number.{numberOf}
-use Rattle.reader_right.specs.Records.{recordsIn}
 use Rattle.session.specs.declared.Start.{Start}
 use Rattle.session.specs.declared.Start.the-variants as started
-use Rattle.session.specs.declared.Session.{Session}
 use Rattle.session.specs.declared.Finish.{Finish}
 use Rattle.session.specs.Begin.{said}
 use Rattle.session.specs.Event.{finish}
@@ -45,15 +42,15 @@ use Rattle.system.specs.declared.File.{File}
 use Rattle.system.specs.Marks.{FileOpened, FileClosed, ReadOver, WriteTold, ReadFull, received, nothing-yet, Delivered, delivered, none-yet}
 use Rattle.closing.specs.Line.{queryLine, lastLine}
 use Rattle.turns.specs.Turns.{refusalOf}
-use Rattle.turns.specs.Owed.{finishLineOf, lastLineBy, last-line-owed, query-silent, not-admitted, long-refused}
+use Rattle.turns.specs.Owed.{lastLineBy, last-line-owed, query-silent, not-admitted, long-refused}
 use Rattle.intake.specs.declared.Verdict.{Verdict}
 use Rattle.intake.specs.Owed.{textEvents, textVerdict, numberIn}
-use Rattle.intake.specs.Names.{FileRead, NamesRead}
+use Rattle.intake.specs.Names.{NamesRead}
 use Rattle.intake.specs.Intake.{longest, verdictFor}
 use Rattle.intake.specs.Catalogue.{catalogueName, records-same}
 use Rattle.text_turns.specs.declared.Stand.{Stand}
 use Rattle.text_turns.specs.Picked.{offeredText, SamePicked, Picked}
-use Rattle.pick_xml.specs.Program.{lastLineFor, lineOf, writtenFor, pickedFor, owedFor, owedOutputBy, owedOutput, queryName, TextRead, pickedBy, TextLined}
+use Rattle.pick_xml.specs.Program.{lastLineFor, lineOf, writtenFor, pickedFor, owedFor, owedOutputBy, owedOutput, queryName, pickedBy, TextLined}
 use Rattle.pick_xml.specs.Program.{NamesLined, Lined, Replied, Outcome}
 
 pub put-line : {a b l m : List ℕ} {r : ℕ} → l ≡ m → Put a 0 l b r → Put a 0 m b r
@@ -139,7 +136,9 @@ module _ {b N X : List ℕ} {file : File} {st : Stand} {E M : List ℕ} (p : Pic
       ap (λ (l : List ℕ). linesOf (listed (decode b) (document (w .events))) ++ l)
       (sym (by-refusal u (w .refusal) (refused-some z)) ∙ by-refusal v (w .refusal) (refused-some z))
 
-  same-owed : (longer : List ℕ) → SamePicked b (numberOf N X) (p .text) longer (st .state .refusal) → pickedBy b (numberOf N X) longer ≡ pickedBy b (numberOf N X) (p .text)
+  same-owed :
+      (longer : List ℕ) → SamePicked b (numberOf N X) (p .text) longer (st .state .refusal)
+      → pickedBy b (numberOf N X) longer ≡ pickedBy b (numberOf N X) (p .text)
   same-owed longer s = ap (λ (o : Offering). writtenFor (decode b) o (textVerdict longer)) (s .same-offered) ∙ go (ℕ-discrete (st .state .refusal) 0)
     where
       go : Dec (st .state .refusal ≡ 0) → writtenFor (decode b) w (textVerdict longer) ≡ writtenFor (decode b) w (textVerdict (p .text))

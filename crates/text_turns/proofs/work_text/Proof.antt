@@ -1,18 +1,13 @@
 -- `text_turns::work_text` meets its contract and ends. The invariant: what the turns have come to so far, for the query that the session was begun with.
 -- Assumes nothing.
-use Prim.Native.Nat.{ℕ}
 use native.Mathlib.Omega.{arith}
-use mathlib.Core.Path.{_≡_, refl, sym, ap, _∙_, subst}
-use mathlib.Core.List.{List}
+use mathlib.Core.Path.{_≡_, refl, sym, _∙_}
 use lib.ListN.{length}
 use borrow.Author.Needs.{needs}
 use Rattle.meaning.specs.Limits.Laws.{output-is}
 use Rattle.meaning.specs.Answer.Laws.{not-small}
 use Rattle.slots.specs.Slots.Laws.{room-is}
-use Rattle.session.specs.declared.Session.{Session}
-use Rattle.turns.specs.Turns.{Started}
 use Rattle.turns.specs.Progress.Laws.{progress-few}
-use Rattle.text_turns.specs.declared.Stand.{Stand}
 use Rattle.text_turns.specs.Stand.{more-is, done-is}
 use Rattle.text_turns.specs.SoFar.{TextSoFar, begun-as, started-as, begun-for-as, refill-so-far, leftOf, turn-so-far, turn-less}
 use Rattle.text_turns.specs.Over.{over-picked}
@@ -39,7 +34,8 @@ loop-holds c =
     let a = start .args in
     let enough = not-small (length (a .elements .now)) (length (a .nodes .now)) (start .pre .0 .0) (start .pre .0 .1) in (
       ((refl, (refl, (refl, refl))), (refl, (refl, refl))),
-      begun-as (a .names .now) (a .index .now) (a .file) (a .session) _ (c .begin .ensures) _ _ _ (a .elements .now) (a .nodes .now) (omega (arith, room-is)) enough,
+      begun-as (a .names .now) (a .index .now) (a .file) (a .session) _ (c .begin .ensures) _ _ _ (a .elements .now) (a .nodes .now)
+          (omega (arith, room-is)) enough,
     )
 
 more-to-do-requires : tie.Need-more-to-do-requires Inv-loop μ-loop
@@ -80,7 +76,10 @@ work-block-requires c κs =
     let y = refill-so-far _ _ _ _ _ _ _ _ _ _ (l .inv .1) more _ _ _ _ lent (search needs) (omega (arith, l .inv .0 .0 .0)) (far .refill .ensures) in
     let begun = started-as _ _ (test .before .before .before .begin .ensures) (start .pre .1 .1 .1) in (
       (y .so-far .within, omega (arith, l .inv .0 .0 .1 .1 .1, l .inv .0 .1 .1 .1, start .pre .1 .0)),
-      (omega (arith, c .before .before .before .before .before .before .before .events2 .given), progress-few (y .so-far .worked (begun .query) (begun .begun) .offered)),
+      (
+        omega (arith, c .before .before .before .before .before .before .before .events2 .given),
+        progress-few (y .so-far .worked (begun .query) (begun .begun) .offered),
+      ),
     )
 
 loop-less : tie.Need-loop-less Inv-loop μ-loop
