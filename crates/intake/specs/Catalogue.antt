@@ -5,13 +5,12 @@
 --   CatalogueRead text   the file was read, up to its end or so far
 --   Told file i es       what came of the file: its text, whose events are es and whose verdict is the intake's
 --   text-told            so it is where no more turn is taken
---   records-same         by a built index the records have the numbers of the list
 --
 -- Assumes nothing.
 use Prim.Native.Nat.{ℕ, _+_, _-_, _≤_}
 use native.Mathlib.Omega.{arith}
 use mathlib.Core.Logic.{_⊎_, inl, inr}
-use mathlib.Core.Path.{_≡_, refl, sym, ap, ap₂, _∙_}
+use mathlib.Core.Path.{_≡_, refl, sym, ap, _∙_}
 use mathlib.Core.Bool.{Bool, true, false}
 use mathlib.Core.List.{List, [], _∷_, _++_}
 use lib.Dec.{eqb}
@@ -20,17 +19,14 @@ use lib.Seq.{take-all}
 use borrow.Author.Tests.{eq-eqb, ne-eqb}
 use Rattle.choice.specs.When.{when, when-true, when-false, never}
 use Rattle.xml.specs.Refused.{unended}
-use Rattle.xml.specs.Grammar.{Ev, b0, opens, closes, remark}
+use Rattle.xml.specs.Grammar.{Ev, b0}
 use Rattle.xml.specs.Machine.{Place, State, stands}
-use Rattle.xml.specs.Bounds.{remarkName}
-use Rattle.xml.specs.Numbered.{numbered, events}
+use Rattle.xml.specs.Numbered.{events}
 use Rattle.xml.specs.Limited.{bounds}
 use Rattle.reading.specs.Exactly.{accepts-exactly}
 use Rattle.modes.specs.declared.Reader.{Reader}
-use Rattle.records.specs.Event.{eventBytes}
 use Rattle.reader.specs.Feed.{finishAnswer}
 use Rattle.text_right.specs.Stands.{stateOf}
-use Rattle.reader_right.specs.Records.{recordsOf, recordsIn}
 use Rattle.reader_right.specs.TextRead.{TextRead, used}
 use Rattle.reader_right.specs.Ended.{isAfter, after-is, finish-exactly, finish-either}
 use Rattle.system.specs.declared.File.{File}
@@ -135,11 +131,3 @@ module _ {N X : List ℕ} {file : File} {i : Intake} {input R : List ℕ} {es : 
   pub text-told : (i .refusal ≡ 0 → ⊥) ⊎ (i .ended ≡ true) → Told file i es
   text-told (inl z) = refused-told z
   text-told (inr e) = ended-told e
-
-pub records-same : (f g : List ℕ → ℕ) → ((w : List ℕ) → f w ≡ g w) → (es : List Ev) → recordsIn f es ≡ recordsIn g es
-unfolding recordsOf numbered
-records-same f g same [] = refl
-records-same f g same (opens n ∷ es) = ap₂ (λ (k : ℕ) (z : List ℕ). eventBytes 1 k ++ z) (same n) (records-same f g same es)
-records-same f g same (closes n ∷ es) = ap₂ (λ (k : ℕ) (z : List ℕ). eventBytes 2 k ++ z) (same n) (records-same f g same es)
-records-same f g same (remark ∷ es) =
-    ap (λ (z : List ℕ). eventBytes 1 remarkName ++ (eventBytes 2 remarkName ++ z)) (records-same f g same es)

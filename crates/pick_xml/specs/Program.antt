@@ -47,7 +47,7 @@ use Rattle.intake.specs.Catalogue.{catalogueName}
 use Rattle.text_turns.specs.declared.Stand.{Stand}
 use Rattle.text_turns.specs.Picked.{offeredText}
 
--- "an event's number for the picker's refusals, a byte's number for 30 and above"
+-- "for the picker's refusals, 5 to 7, E is the number of the refused event; for 30 to 44 that of the byte"
 unfoldable pub lastLineFor : Option ℕ → Query → List Event → Verdict → List ℕ
 lastLineFor (some r) q es v = refusedAtLine r (length es + 1)
 lastLineFor none q es v = when (eqb (v .refusal) 0) (finishLineOf q es) (refusedAtLine (v .refusal) (v .at))

@@ -47,7 +47,8 @@ use Rattle.intake.specs.declared.Verdict.{Verdict}
 use Rattle.intake.specs.Owed.{textEvents, textVerdict, numberIn}
 use Rattle.intake.specs.Names.{NamesRead}
 use Rattle.intake.specs.Intake.{longest, verdictFor}
-use Rattle.intake.specs.Catalogue.{catalogueName, records-same}
+use Rattle.reader_right.specs.Records.{same-records}
+use Rattle.intake.specs.Catalogue.{catalogueName}
 use Rattle.text_turns.specs.declared.Stand.{Stand}
 use Rattle.text_turns.specs.Picked.{offeredText, SamePicked, Picked}
 use Rattle.pick_xml.specs.Program.{lastLineFor, lineOf, writtenFor, pickedFor, owedFor, owedOutputBy, owedOutput, queryName, pickedBy, TextLined}
@@ -191,7 +192,7 @@ module _ (names x y : List ℕ) (a : Listing) (gives : BuildGives names x y a) (
     unfolding numberIn
     same-picked text =
         ap (λ (l : List ℕ). writtenFor (decode b) (offeringAll (decode b) l) (textVerdict text))
-        (records-same (numberOf names y) (numberIn names) (build-finds names x y a gives z) (textEvents text))
+        (same-records (numberOf names y) (numberIn names) (build-finds names x y a gives z) (textEvents text))
 
     pub names-lined : (lines : List ℕ) (r : ℕ) → TextLined b names y lines r → NamesLined b lines r
     unfolding owedFor

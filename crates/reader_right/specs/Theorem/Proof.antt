@@ -19,8 +19,7 @@ use Rattle.choice.specs.When.{never}
 use Rattle.meaning.specs.Stream.{Stream}
 use Rattle.meaning.specs.Answer as meaning
 use Rattle.xml.specs.Refused.{scant}
-use Rattle.xml.specs.Bounds.{remarkName}
-use Rattle.xml.specs.Grammar.{Ev, opens, closes, remark, Document}
+use Rattle.xml.specs.Grammar.{Ev, Document}
 use Rattle.xml.specs.Limited.{bounds}
 use Rattle.xml.specs.Machine.{State, stopped, stands, run}
 use Rattle.xml.specs.Sentences.{Begins, Spent, RefusedAt}
@@ -31,7 +30,6 @@ use Rattle.reading.specs.Earliest.{read-exactly, earliest}
 use Rattle.reading.specs.Refusing.{Stands, never-both, refused-reads, refused-stands, refused-anywhere}
 use Rattle.reading.specs.Streams as streams
 use Rattle.reading.specs.Table.{one-number, table, misplaced-is}
-use Rattle.records.specs.Event.{eventBytes}
 use Rattle.listed.specs.Lines.{linesOf}
 use Rattle.names.specs.Built.{build-finds}
 use Rattle.names.specs.First.{firstPlace}
@@ -46,7 +44,7 @@ use Rattle.reader.specs.Feed.{Came, tooScant, finishAnswer, FeedGives, FinishGi
 use Rattle.text_right.specs.Stands.{stateOf}
 use Rattle.text_right.specs.Sound.{Sound}
 use Rattle.text_right.specs.Quiet.{Bytes}
-use Rattle.reader_right.specs.Records.{recordsOf, recordsIn, records-more}
+use Rattle.reader_right.specs.Records.{recordsOf, recordsIn, records-more, same-records}
 use Rattle.reader_right.specs.Wrote.{wrote-first, wrote-rest}
 use Rattle.reader_right.specs.Counted.{Counted}
 use Rattle.reader_right.specs.TextRead.{TextRead, used, text-begun, FeedCame, feed-came, feed-on}
@@ -322,14 +320,6 @@ module _ (N X : List ℕ) where
         ap (λ (y : Came). y .room) e,
         ap (λ (y : Came). y .out) e,
       )
-
--- by the same numbers the same records
-same-records : (f g : List ℕ → ℕ) → ((n : List ℕ) → f n ≡ g n) → (es : List Ev) → recordsIn f es ≡ recordsIn g es
-unfolding recordsOf numbered
-same-records f g h [] = refl
-same-records f g h (opens n ∷ es) = ap₂ (λ x z. eventBytes 1 x ++ z) (h n) (same-records f g h es)
-same-records f g h (closes n ∷ es) = ap₂ (λ x z. eventBytes 2 x ++ z) (h n) (same-records f g h es)
-same-records f g h (remark ∷ es) = ap (λ z. eventBytes 1 remarkName ++ (eventBytes 2 remarkName ++ z)) (same-records f g h es)
 
 pub promised : (N X : List ℕ) → Promised N X
 promised N X =

@@ -29,7 +29,7 @@ use Rattle.chains.specs.Index.{indexWords}
 use Rattle.slots.specs.Slots.{roomNeeded}
 use Rattle.slots.specs.Slots.Laws.{room-is}
 use Rattle.reader.specs.Feed.{tooScant}
-use Rattle.reader_right.specs.Records.{recordsOf, recordsIn, records-more}
+use Rattle.reader_right.specs.Records.{recordsOf, recordsIn, records-more, same-records}
 use Rattle.reader_right.specs.Wrote.{wrote-first}
 use Rattle.lines.specs.Text.{refusedAtLine}
 use Rattle.system.specs.declared.File.{File}
@@ -42,7 +42,7 @@ use Rattle.intake.specs.Intake.{longest, begun, Advanced, verdictFor}
 use Rattle.intake.specs.Intake.Laws.{lent-enough}
 use Rattle.intake.specs.InText.{InText, begun-text, Onward, advance-text}
 use Rattle.intake.specs.Less.{textLeft, advance-less}
-use Rattle.intake.specs.Catalogue.{catalogueName, text-told, records-same}
+use Rattle.intake.specs.Catalogue.{catalogueName, text-told}
 use Rattle.xml_events.specs.Program.{verdictOn, owedRecords, Complained, silent, said, moreToDo, Written, TextLined, Lined, Answered, Outcome}
 
 pub record SoFar (N X : List ℕ) (file : File) (i : Intake) (input R : List ℕ) (written : Bool) : Type 0 where
@@ -183,7 +183,7 @@ module _ (names x y : List ℕ) (r : Listing) (gives : BuildGives names x y r) (
         verdict-so = l .verdict-so ∙ sym (when-true _ _ _ q);
         delivered =
             subst Delivered
-            (records-same (numberOf names y) (numberIn names) (build-finds names x y r gives z) (textEvents (l .text)) ∙ sym (when-true _ _ [] q))
+            (same-records (numberOf names y) (numberIn names) (build-finds names x y r gives z) (textEvents (l .text)) ∙ sym (when-true _ _ [] q))
             (l .delivered);
       }
 
