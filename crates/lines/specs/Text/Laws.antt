@@ -1,6 +1,6 @@
 -- The program's lines.
 --
---  lines_of_append      the lines of some nodes, and then those of others; lines_of_snoc: one line more at the end
+--   lines_of_append      the lines of some nodes, and then those of others; lines_of_snoc: one line more at the end
 --   length_line         a line is one byte longer than the numeral
 --   line_short          a line has at most 11 bytes for a number under 10 ^ 10, 21 for one under 10 ^ 20
 --   lines_short         so many lines have at most 11 bytes each
