@@ -1,8 +1,7 @@
 -- `lay` goes through the lines and lays the two words of each. The invariant is Laying.Standing.
 -- Assumes nothing.
-use Prim.Native.Nat.{◌-◌}
 use native.Mathlib.Omega.{arith}
-use lib.ListN.{length, length-set}
+use lib.ListN.{length-set}
 use Rattle.listed.specs.Lines.Laws.{line_ends}
 use Rattle.chains.proofs.Index.Room.{ready_few}
 use Rattle.chains.proofs.Laying.{lay_starts, more, short, place_within, turn, lay_done}
@@ -10,6 +9,15 @@ use Rattle.chains.proofs.lay.Goals as goal
 
 pub loop-at-init : goal.loop-at-init
 loop-at-init c = lay_starts _ _
+
+pub loop-at-preserved : goal.loop-at-preserved
+loop-at-preserved c =
+    turn c.requires c.loop-at.invariant (omega arith) c.line_end-end.ensures
+
+pub returns : goal.returns
+returns c =
+    let done = lay_done c.requires c.loop-at.invariant (omega arith) in
+    record { value = done.0; index_after = done.1 }
 
 pub overflow_mul-entry : goal.overflow_mul-entry
 overflow_mul-entry c =
@@ -31,9 +39,6 @@ pub bounds-index-entry : goal.bounds-index-entry
 bounds-index-entry c =
     omega (arith, place_within c.requires c.loop-at.invariant (omega arith) c.line_end-end.ensures)
 
-pub overflow_sub-index : goal.overflow_sub-index
-overflow_sub-index c = omega arith
-
 pub overflow_add-index : goal.overflow_add-index
 overflow_add-index c =
     omega (arith, more c.requires c.loop-at.invariant (omega arith) c.line_end-end.ensures, ready_few c.requires)
@@ -49,18 +54,6 @@ overflow_add-count c =
 pub overflow_add-at : goal.overflow_add-at
 overflow_add-at c =
     omega (arith, line_ends c.args.names.now c.loop-at.at (omega arith))
-
-pub loop-at-smaller : goal.loop-at-smaller
-loop-at-smaller c = omega arith
-
-pub loop-at-preserved : goal.loop-at-preserved
-loop-at-preserved c =
-    turn c.requires c.loop-at.invariant (omega arith) c.line_end-end.ensures
-
-pub returns : goal.returns
-returns c =
-    let done = lay_done c.requires c.loop-at.invariant (omega arith) in
-    record { value = done.0; index_after = done.1 }
 
 pub offset_bounds-index-entry : goal.offset_bounds-index-entry
 offset_bounds-index-entry c =

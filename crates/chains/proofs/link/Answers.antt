@@ -14,8 +14,15 @@ loop-left-init c =
     let given = c.requires in
     record { long = refl; most = omega (arith, given.all); words = given.places }
 
-pub overflow_sub-entry : goal.overflow_sub-entry
-overflow_sub-entry c = omega arith
+pub loop-left-preserved : goal.loop-left-preserved
+loop-left-preserved c =
+    turn c.requires.ready c.loop-left.invariant (omega arith) c.bucket_at-bucket.ensures
+
+pub returns : goal.returns
+unfolding built
+returns c =
+    let none : c.loop-left.left ≡ 0 = omega arith in
+    c.loop-left.invariant.words ∙ ap (λ n. partly (lines_of c.args.names.now) n c.args.index.now) none
 
 pub overflow_mul-entry : goal.overflow_mul-entry
 overflow_mul-entry c =
@@ -52,22 +59,6 @@ overflow_cast-index c =
 pub bounds-index-bucket-in-loop-left : goal.bounds-index-bucket-in-loop-left
 bounds-index-bucket-in-loop-left c =
     simp length-set (bucket_within c.requires.ready c.loop-left.invariant (omega arith) c.bucket_at-bucket.ensures)
-
-pub overflow_sub-left : goal.overflow_sub-left
-overflow_sub-left c = omega arith
-
-pub loop-left-smaller : goal.loop-left-smaller
-loop-left-smaller c = omega arith
-
-pub loop-left-preserved : goal.loop-left-preserved
-loop-left-preserved c =
-    turn c.requires.ready c.loop-left.invariant (omega arith) c.bucket_at-bucket.ensures
-
-pub returns : goal.returns
-unfolding built
-returns c =
-    let none : c.loop-left.left ≡ 0 = omega arith in
-    c.loop-left.invariant.words ∙ ap (λ n. partly (lines_of c.args.names.now) n c.args.index.now) none
 
 pub offset_bounds-index-bucket : goal.offset_bounds-index-bucket
 offset_bounds-index-bucket c =
