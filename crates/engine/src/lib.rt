@@ -1,1 +1,3 @@
 // The engine as pure functions has no code: everything is in specs/.
+#![tactic(auto)]
+

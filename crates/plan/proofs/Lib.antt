@@ -14,5 +14,5 @@ pub mod Laying
 pub mod Made
 pub mod Asked
 pub mod Places
-pub mod Plan
+pub mod Masks
 pub mod Planned

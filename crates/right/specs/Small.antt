@@ -26,7 +26,7 @@ use Rattle.plan.specs.Every.{Every, e_nil, e_cons, every_map, every_both, every_
 use Rattle.plan.specs.Order.{back_path, predicates, order, mask}
 use Rattle.plan.proofs.Places.Laws.{order_length}
 use Rattle.plan.specs.Plan.{plan, named}
-use Rattle.plan.proofs.Plan.Laws.{plan_size, named_under, meets_under}
+use Rattle.plan.proofs.Masks.{plan_size, named_under, meets_under}
 use Rattle.engine.proofs.Every.{every_keep, every_past}
 use Rattle.engine.specs.Need.{Need, itself, one_of}
 use Rattle.engine.specs.Engine as Engine
