@@ -30,7 +30,7 @@ use Rattle.plan.proofs.Masks.{plan_size, named_under, meets_under}
 use Rattle.engine.proofs.Every.{every_keep, every_past}
 use Rattle.engine.specs.Need.{Need, itself, one_of}
 use Rattle.engine.specs.Engine as Engine
-use Rattle.engine.proofs.Hom.{frame_in, waiting_in}
+use Rattle.engine.specs.Hom.{frame_in, waiting_in}
 use Rattle.engine.specs.MaskOps.{masks, need_mask, mask_state}
 use Rattle.engine.specs.StateOf.{frames_of, places, number, frames_at, nodes, state_of}
 use Rattle.engine.proofs.StateOf.Places.{length_places}

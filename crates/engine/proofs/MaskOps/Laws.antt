@@ -31,7 +31,8 @@ use Rattle.engine.proofs.Every.{every_map}
 use Rattle.engine.specs.Need as Need
 use Rattle.engine.specs.Need.{Need, itself, one_of, wanted}
 use Rattle.engine.specs.Engine.{open_model, close_model}
-use Rattle.engine.proofs.Hom.{Hom, state_in, open_hom, close_hom}
+use Rattle.engine.specs.Hom.{Hom, state_in}
+use Rattle.engine.proofs.Hom.{open_hom, close_hom}
 use Rattle.engine.specs.StateOf.{ops, state_of}
 use Rattle.engine.proofs.StateOf.Theorem.{open_state, open_out, close_state, close_out_lem}
 use Rattle.plan.specs.Order.{predicates, back_path, order, at, mask}

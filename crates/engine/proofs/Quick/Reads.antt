@@ -26,9 +26,9 @@ use Rattle.engine.specs.StateOf.{frames_of, places, number, frames_at, nodes, st
 use Rattle.engine.proofs.StateOf.Standings.{queue_held}
 use Rattle.plan.specs.Plan.{plan}
 use Rattle.plan.proofs.Masks.{plan_size, meets_under}
-use Rattle.engine.proofs.Hom.{frame_in, waiting_in}
+use Rattle.engine.specs.Hom.{frame_in, waiting_in}
 use Rattle.engine.specs.MaskOps.{masks, mask_state}
-use Rattle.engine.specs.Quick.{Frame, Waiting, begun, name_at, met_at}
+use Rattle.engine.specs.Quick.{Waiting, begun, name_at, met_at}
 use Rattle.engine.specs.Quick.Of.{frame_shown, waiting_shown, quick_state}
 use Rattle.engine.proofs.Quick.Lists.{layers_low}
 use Rattle.engine.proofs.Quick.Waits.{queue_layers, length_masks}
