@@ -18,7 +18,7 @@ use Rattle.std.proofs.lemmas.List.Edits.{sets, sets-eq}
 use Rattle.std.proofs.lemmas.List.{set_comm}
 use Rattle.io.specs.Counts.{IsPrefixLen}
 use Rattle.lines.specs.Decimal.{digit, decimal}
-use Rattle.lines.specs.Decimal.Laws.{decimal_single, decimal_more, length_more}
+use Rattle.lines.proofs.DecimalLaws.{decimal_single, decimal_more, length_more}
 use Rattle.lines.specs.Put.{Put}
 
 -- a run of stores is one part, and then the other behind it

@@ -14,9 +14,9 @@ use Rattle.std.proofs.Common.{add-one, arith, sym, ap, ◌∙◌, append-nil, ap
 use Rattle.meaning.specs.Record.{Bytes}
 use Rattle.records.specs.Write.{node_at, nodes_in}
 use Rattle.lines.specs.Decimal.{decimal}
-use Rattle.lines.specs.Decimal.Laws.{length_short}
+use Rattle.lines.proofs.DecimalLaws.{length_short}
 use Rattle.lines.specs.Put.{Put}
-use Rattle.lines.specs.Put.Laws.{put_then}
+use Rattle.lines.proofs.PutLaws.{put_then}
 use Rattle.lines.specs.Text.{line, lines_of, end_word, refused_word, at_word, reason_word, end_line, refused_line}
 use Rattle.lines.specs.Text.{refusal_text, refused_at_line, refused_for_line}
 
