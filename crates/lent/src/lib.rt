@@ -1,4 +1,6 @@
 // Whether what a caller lends is long enough: refusals 15 and 1, by the lengths alone.
+#![tactic(auto)]
+
 ghost use Rattle.std.specs.Prelude.{◌≡◌};
 ghost use Rattle.lent.specs.Lent.{refuse_room, refuse_lent, RoomFits, LentFits};
 

@@ -1,4 +1,6 @@
 // The query check: which bytes are a query, and with which number, step and reason the others are refused.
+#![tactic(auto)]
+
 ghost use Rattle.std.specs.Prelude.{◌≡◌, length};
 ghost use Rattle.meaning.specs.Query.{hangs_right, nearer};
 ghost use Rattle.query.specs.Rules.{step_bytes, wrong_length, Right, axis_named, axis_rule, role_rule, zero_rule};

@@ -1,4 +1,6 @@
 // Lent bytes as numbers of 4 bytes, low byte first. Compiled, a `get` is one load and a `put` one store.
+#![tactic(auto)]
+
 ghost use Rattle.std.specs.Prelude.{◌≡◌, ◌+◌, ◌*◌, ◌≤◌, length, get_or, set};
 ghost use Rattle.words.specs.Words.{word, words};
 
