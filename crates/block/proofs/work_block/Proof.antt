@@ -2,7 +2,7 @@
 use Prim.Native.Nat.{◌≤◌}
 use native.Mathlib.Omega.{arith}
 use borrow.Author.Rules.{rules}
-use Rattle.meaning.specs.Limits.Laws.{node_limit_is}
+use Rattle.meaning.proofs.Limits.Laws.{node_limit_is}
 use Rattle.block.proofs.Block.{part_short, worked_so}
 use Rattle.block.proofs.work_block.Statement.{statement}
 use Rattle.block.proofs.work_block.Tie as tie

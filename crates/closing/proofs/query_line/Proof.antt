@@ -1,6 +1,6 @@
 -- `closing::query_line` meets its contract. Assumes nothing.
 use borrow.Author.Rules.{rules}
-use Rattle.lines.proofs.PutLaws.{put_none}
+use Rattle.lines.proofs.Put.Laws.{put_none}
 use Rattle.closing.proofs.Cases.{query_line_is}
 use Rattle.closing.proofs.query_line.Statement.{statement}
 use Rattle.closing.proofs.query_line.Tie as tie

@@ -26,7 +26,7 @@ use Rattle.listed.specs.Listed.{list_answer}
 use Rattle.listed.specs.declared.Listing.{Listing}
 use Rattle.chains.specs.Index.{index_words}
 use Rattle.names.specs.Answer.{BuildGives}
-use Rattle.names.specs.Built.{list_refused, build_finds}
+use Rattle.names.proofs.Built.{list_refused, build_finds}
 use Rattle.names.specs.Number.{number_of}
 use Rattle.session.specs.declared.Start.{Start}
 use Rattle.session.specs.declared.Start.TheVariants as started
@@ -34,7 +34,7 @@ use Rattle.session.specs.declared.Finish.{Finish}
 use Rattle.session.specs.Begin.{said}
 use Rattle.session.specs.Event.{finish}
 use Rattle.lines.specs.Put.{Put}
-use Rattle.lines.proofs.PutLaws.{put_taken}
+use Rattle.lines.proofs.Put.Laws.{put_taken}
 use Rattle.lines.specs.Text.{lines_of, refused_at_line}
 use Rattle.system.specs.declared.File.{File}
 use Rattle.system.specs.Marks.{FileOpened, FileClosed, ReadOver, WriteTold, ReadFull, received, nothing_yet, Delivered, delivered, none_yet}

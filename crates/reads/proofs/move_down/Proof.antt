@@ -5,7 +5,7 @@ use native.Mathlib.Omega.{arith}
 use mathlib.Core.Path.{◌≡◌, refl}
 use lib.ListN.{length, take, drop, length-set, length-drop}
 use Rattle.lines.specs.Put.{Put}
-use Rattle.lines.proofs.PutLaws.{put_none}
+use Rattle.lines.proofs.Put.Laws.{put_none}
 use Rattle.reads.proofs.Moved.{put_moved}
 use Rattle.reads.proofs.move_down.Statement.{statement}
 use Rattle.reads.proofs.move_down.Tie as tie
