@@ -3,8 +3,8 @@
 --   Case           a query; a stream taken as accepted before (none: a fresh session); calls, each with its answer; and when nodes change their standing
 --   holds c        the query and the stream before are well-formed, each call of c gets its answer and, for each (node, call, standing)
 --                  of c's `becomes`, the node has that standing after that call of c and not after the call before
---  all_hold cs     every case of cs holds
---  same_nodes      two lists of nodes are equal
+--   all_hold cs     every case of cs holds
+--   same_nodes      two lists of nodes are equal
 --   a' to r', book', section', table', cell', position', author'      the names of the documents
 --   main_child, main_descendant, has_child, has_descendant     a step on the main path or in a predicate: the step it hangs on, and its name
 --   enter n, leave n      the calls that open and close n, each with buffers just large enough

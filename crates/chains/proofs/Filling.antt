@@ -10,7 +10,7 @@ use mathlib.Core.List.{List}
 use lib.ListN.{length}
 use Rattle.listed.specs.Lines.{lines_of}
 use Rattle.chains.specs.Index.{partly, built, cleared, laid_in}
-use Rattle.chains.specs.Index.Parts.{partly_again, laid_cleared}
+use Rattle.chains.proofs.Index.Parts.{partly_again, laid_cleared}
 
 module _ (names x y z : List ℕ) (clears : y ≡ cleared x) (lays : z ≡ laid_in names y) where
   laid : z ≡ partly (lines_of names) (length (lines_of names)) x

@@ -21,8 +21,8 @@ use Rattle.listed.specs.Lines.Laws.{line_within, lines_first, lines_done}
 use Rattle.spelling.specs.Bucket.{buckets}
 use Rattle.spelling.specs.Bucket.Laws.{buckets_is}
 use Rattle.chains.specs.Index.{link_of, entries, laid_in, Ready}
-use Rattle.chains.specs.Index.Laws.{entries_length}
-use Rattle.chains.specs.Index.Room.{ready_words, ready_few, ready_short, ready_room}
+use Rattle.chains.proofs.Index.Laws.{entries_length}
+use Rattle.chains.proofs.Index.Room.{ready_words, ready_few, ready_short, ready_room}
 
 -- the two words of one line more
 two_words :

@@ -1,3 +1,4 @@
 pub mod Laying
 pub mod Linking
 pub mod Filling
+pub mod Index

@@ -18,9 +18,9 @@ use Rattle.listed.specs.Lines.Laws.{line_fits, line_spelled}
 use Rattle.spelling.specs.Bucket.{buckets, bucket_of}
 use Rattle.spelling.specs.Bucket.Laws.{buckets_is, bucket_below}
 use Rattle.chains.specs.Index.{first_in, link_of, partly, spelling_at, EntryFits, Ready}
-use Rattle.chains.specs.Index.Laws.{first_below, next}
-use Rattle.chains.specs.Index.Parts.{head_at, place_from, place_laid, partly_linked}
-use Rattle.chains.specs.Index.Room.{ready_words, ready_few, ready_short}
+use Rattle.chains.proofs.Index.Laws.{first_below, next}
+use Rattle.chains.proofs.Index.Parts.{head_at, place_from, place_laid, partly_linked}
+use Rattle.chains.proofs.Index.Room.{ready_words, ready_few, ready_short}
 
 abbrev entry : ℕ → ℕ
 entry left = 65536 + 2 * (left - 1)

@@ -1,22 +1,19 @@
 -- The index of a list of names: in its words, for each bucket the first place of its chain, and for each place where its name stands and which place is next
 -- in its chain. Places count from 1, and 0 is none.
 --
---  index_words              how many words an index has
---  first_in h n ls          the first place of bucket h among the lines ls, of which the first is place n
+--   index_words              how many words an index has
+--   first_in h n ls          the first place of bucket h among the lines ls, of which the first is place n
 --   link_of next bytes       the second word of a place: the next place and how many bytes its name has
 --   entries k from n ls     the two words of each place of ls, of which the first is place n and begins at byte `from`: where the name begins, and its link;
 --                           the first k places are in no chain yet
 --   heads k ls              the first word of each chain, where the first k places are in no chain yet
 --   partly ls k x           the words x with the index of ls in front, where the first k places are in no chain yet
 --   built names x           THE INDEX of a list, in the words x: those that it does not need are as they were
---  cleared x, laid_in names x      x with empty buckets; x with the places of a list, in no chain yet
---  spelling_at names x e    the name whose two words stand at e;  EntryFits: they say what stands in the list
+--   cleared x, laid_in names x      x with empty buckets; x with the places of a list, in no chain yet
+--   spelling_at names x e    the name whose two words stand at e;  EntryFits: they say what stands in the list
 --   Ready names x           the list is fine, and an index has room in x;  Laid names x n: and its n places are in it, in no chain yet
 --
 -- Assumes nothing. NOT here: which lists are refused, and what is found by an index (crate names).
-pub mod Laws
-pub mod Parts
-pub mod Room
 use Rattle.std.specs.Prelude.{ℕ, zero, suc, ◌+◌, ◌*◌, ◌/◌, ◌≤◌, ◌<◌, ◌≡◌, List, [], ◌∷◌, ◌++◌, eqb, length, get_or, take, drop, replicate}
 use Rattle.choice.specs.When.{when}
 use Rattle.words.specs.Rows.{rows}

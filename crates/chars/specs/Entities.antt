@@ -1,9 +1,9 @@
 -- The five entities, and how a spelling of one goes on.
 --
---  entity_table                  each entity's spelling with its semicolon, filled up with 0 to 5 bytes, and the code point that it stands for
---  goes_on T row like n b        the entity at row begins with the first n bytes of the one at `like`, and then has b
---  entity_from T like n b row k  the first such row from row on, of the k there; no_entity for none
---  entity_row like n b           the first such row of all
+--   entity_table                  each entity's spelling with its semicolon, filled up with 0 to 5 bytes, and the code point that it stands for
+--   goes_on T row like n b        the entity at row begins with the first n bytes of the one at `like`, and then has b
+--   entity_from T like n b row k  the first such row from row on, of the k there; no_entity for none
+--   entity_row like n b           the first such row of all
 --
 -- Assumes nothing. NOT here: that these are the grammar's (crate text_right, Entities).
 pub mod Laws

@@ -5,8 +5,8 @@
 --   6             80 to BE, then form 1, or BF, then form 7: after EF;  7: 80 to BD: after EF BF
 --   8             90 to BF, then form 2: after F0;  9: 80 to 8F, then form 2: after F4
 --
---  lead_form b                  the form after the first byte b, or 0 where no character begins so
---  lowest_in f, highest_in f     the least and the greatest byte that the form f goes on with
+--   lead_form b                  the form after the first byte b, or 0 where no character begins so
+--   lowest_in f, highest_in f     the least and the greatest byte that the form f goes on with
 --   follows f b                 what is left after the byte b: a form, `whole`, or 0 where f does not go on so
 --
 -- Assumes nothing. NOT here: that these are the rows of Unicode's table (crate text_right, Forms).

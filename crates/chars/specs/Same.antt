@@ -1,6 +1,6 @@
 -- Two parts of bytes compared.
 --
---  same_bytes a i b j n      the n bytes of a from i on are those of b from j on
+--   same_bytes a i b j n      the n bytes of a from i on are those of b from j on
 --   same_parts               it is the test of the two parts
 --
 -- Assumes nothing. NOT here: that the test says so exactly if the parts are equal (crate spelling).

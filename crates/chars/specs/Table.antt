@@ -1,6 +1,6 @@
 -- The marks of all bytes.
 --
---  marks_table      1 plain, 2 in double quotes, 4 in single quotes, 8 no dash, 16 in a name, 32 begins a name, 64 blank; of a byte with several their sum
+--   marks_table      1 plain, 2 in double quotes, 4 in single quotes, 8 no dash, 16 in a name, 32 begins a name, 64 blank; of a byte with several their sum
 --
 -- Assumes nothing. NOT here: that these are the classes of the grammar (crate text_right).
 use Rattle.std.specs.Prelude.{ℕ, List, [], ◌∷◌}

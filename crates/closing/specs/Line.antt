@@ -1,8 +1,8 @@
 -- The lines that the program writes besides the nodes, by what the calls answered.
 --
---  query_line a             the line that answers a refused begin; nothing where a session is begun
---  finish_line f taken      the last line of a stream of which so many events were taken and none was refused, by what finish answers
---  last_line f taken r      the last line where event taken + 1 was refused with r; r is 0 where none was
+--   query_line a             the line that answers a refused begin; nothing where a session is begun
+--   finish_line f taken      the last line of a stream of which so many events were taken and none was refused, by what finish answers
+--   last_line f taken r      the last line where event taken + 1 was refused with r; r is 0 where none was
 --
 -- Assumes nothing. NOT here: which lines are owed for which files (crate pick, Program), the lines themselves (crate lines).
 use Rattle.std.specs.Prelude.{ℕ, ◌+◌, cond, List, [], ltb}

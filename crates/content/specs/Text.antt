@@ -1,9 +1,9 @@
 -- One byte of character data, of a comment, of an entity or of a character of several bytes.
 --
---  wide_tick r b back, char_tick r b      the first byte of a character of several bytes, after which the reader comes back; another of its bytes
---  data_tick M r b bracket shut          character data, in which ']' leads to the mode `bracket`; where it is shut '>' is refused
---  bang_tick, note_tick M r b dash, remarked_tick      "<!--"; a comment, in which '-' leads to the mode `dash`; its '>'
---  entity_tick r b, amper_tick r b        a byte of an entity; after '&'
+--   wide_tick r b back, char_tick r b      the first byte of a character of several bytes, after which the reader comes back; another of its bytes
+--   data_tick M r b bracket shut          character data, in which ']' leads to the mode `bracket`; where it is shut '>' is refused
+--   bang_tick, note_tick M r b dash, remarked_tick      "<!--"; a comment, in which '-' leads to the mode `dash`; its '>'
+--   entity_tick r b, amper_tick r b        a byte of an entity; after '&'
 --
 -- M are the marks of the bytes. Assumes nothing. NOT here: that these are the machine's steps (crate text_right).
 use Rattle.std.specs.Prelude.{ℕ, ◌+◌, Bool, List, [], ◌∷◌, eqb, leb, get_or}

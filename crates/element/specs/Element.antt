@@ -1,9 +1,9 @@
 -- The open elements as they stand in lent bytes: a record of 16 numbers for each.
 --
 --   shape               an element's record: its frame (crate engine, Quick) is its first numbers, one for each field
---  Elements            all records: their frames, used or not, and their spare numbers;  elements_in bs: those in bytes
+--   Elements            all records: their frames, used or not, and their spare numbers;  elements_in bs: those in bytes
 --   frame_at E i         the frame of record i
---  raised_in, refreshed_in, opened_in      what `raise`, `refresh` and `open` do, to record i alone
+--   raised_in, refreshed_in, opened_in      what `raise`, `refresh` and `open` do, to record i alone
 --
 -- There are as many records as elements may be open (crate meaning, Limits).
 -- Assumes nothing. NOT here: how many of the records are in use (crate step).

@@ -2,9 +2,9 @@
 --
 --   with fs E                 the records E with the frames fs
 --   Risen                     how many of the open elements stayed as they were, and the records
---  risen_in P a depth E       a rises through the first `depth` records
---  refreshed_from P s from to E     the records from `from` to `to` with `sure` computed again, under s
---  pushed_in P x depth E      a new element named x under the first `depth`
+--   risen_in P a depth E       a rises through the first `depth` records
+--   refreshed_from P s from to E     the records from `from` to `to` with `sure` computed again, under s
+--   pushed_in P x depth E      a new element named x under the first `depth`
 --
 -- Assumes nothing.
 pub mod Laws

@@ -1,7 +1,7 @@
 -- The events that a byte gave, as records in the output.
 --
 --   Emitted                    the room, the output, and how many of its bytes are written
---  both_in out w x             the records of an open and a close of the name x, from w on
+--   both_in out w x             the records of an open and a close of the name x, from w on
 --   opened, closed             after an open, whose number is kept in its slot, and after a close
 --   emitted names x r R out w        after what the reader r gives, in the list `names` with its index x
 --   in_gives, both_as          by what was found that it gives; by the name that was found

@@ -1,9 +1,9 @@
 -- One byte of an end tag, or the '>' of an empty one.
 --
---  emptied_tick r b           after the '/' of an empty tag
+--   emptied_tick r b           after the '/' of an empty tag
 --   closed r                  the innermost element is closed
---  ended_tick M r b           after an end tag's name;  whole_tick M r b: right after it
---  end_tick M r b R           in an end tag's name
+--   ended_tick M r b           after an end tag's name;  whole_tick M r b: right after it
+--   end_tick M r b R           in an end tag's name
 --
 -- M are the marks of the bytes, R the room. Assumes nothing. NOT here: that these are the machine's steps (crate text_right).
 use Rattle.std.specs.Prelude.{ℕ, ◌+◌, ◌-◌, List, eqb, leb, get_or}

@@ -13,7 +13,7 @@
 --   stands O rs x      the need of the place x is met, the levels being read with rs
 --   certain O fs w, alive O fs w     w is selected in the sure reading, in the open reading
 --   settle O fs ws n   the frames fs judge the nodes ws: the ruled out leave, the certain ones at the front are handed out
---  open_model O y s    the opening of y;  close_model O s: the closing of the innermost open element
+--   open_model O y s    the opening of y;  close_model O s: the closing of the innermost open element
 --   exact O fs         what the innermost open element meets: at its close that is final
 --   move O l M x       the place x after the close of an element at level l + 1 that meets M
 --

@@ -13,10 +13,6 @@
 -- Assumes nothing.
 pub mod Need
 pub mod Engine
-pub mod Queue
 pub mod StateOf
-pub mod Every
-pub mod Hom
 pub mod MaskOps
 pub mod Quick
-pub mod Trial

@@ -1,13 +1,12 @@
 -- The engine's sets, readys and needs as masks in the order of a query.
 --
---  mask_ops P          the plan's operations, as the engine wants them
+--   mask_ops P          the plan's operations, as the engine wants them
 --   masks q            how the meaning's sets become masks: what an element meets in the order of q, the predicate steps of what is
 --                      below it, readys and needs along its path
---  mask_state q d      the state after d, in masks
+--   mask_state q d      the state after d, in masks
 --
 -- Assumes nothing. That the operations agree, for an admitted query, is shown in MaskOps.Laws. Here a Ready still says whether the last
 -- step was given, and a need says "itself": Quick has neither.
-pub mod Laws
 use Rattle.std.specs.Prelude.{ℕ, Bool, true, false}
 use Rattle.meaning.specs.Query.{Query, Steps}
 use Rattle.meaning.specs.Document.{Doc}
@@ -15,7 +14,7 @@ use Rattle.meaning.specs.Selection.{Ready, ReadyOf}
 use Rattle.sets.specs.Set.{join, without, overlaps}
 use Rattle.engine.specs.Need.{NeedOf, Need, itself, one_of}
 use Rattle.engine.specs.Engine.{Ops, State}
-use Rattle.engine.specs.Hom.{Coat, state_in}
+use Rattle.engine.proofs.Hom.{Coat, state_in}
 use Rattle.engine.specs.StateOf.{state_of}
 use Rattle.plan.specs.Order.{back_path, order, mask}
 use Rattle.plan.specs.Plan.{Plan, plan, named, meets, lift, turn, last_given, up_if}

@@ -7,7 +7,6 @@
 --   needs q f          what each node of the closed row f needs of the Ready around it
 --
 -- Assumes nothing. The law of needs is in Need.Laws: a closed node's need is one set, fixed when it closes.
-pub mod Laws
 use Rattle.std.specs.Prelude.{ℕ, Bool, false, ◌&&◌, ◌||◌, List, [], ◌∷◌, ◌++◌, map, eqb}
 use Rattle.meaning.specs.Query.{Query, Steps, any_step, goes_deep, last_main}
 use Rattle.meaning.specs.Document.{Row, nil, el}

@@ -8,35 +8,25 @@
 --                      far; whether the document element has been closed
 --   Result             the next state and the nodes handed out
 --   begun              the state before the first event
---  name_at, met_at, sure_at, possible_at     what the frames hold at a level; level 0 is the document
+--   name_at, met_at, sure_at, possible_at     what the frames hold at a level; level 0 is the document
 --   certain P fs w     w is selected in the sure reading: its need meets its level's turn, or it is given the last step itself
 --   counted c ws       how many at the beginning of ws pass c
 --   rise P a fs        a met anew inside the frames fs rises through them, until it is no news: which stay (kept), which have risen, and
 --                      what is left of it for the level above (0 if some frame stays)
 --   refresh P s fs     the frames fs with `sure` computed again, under s
---  went_if look P fs ws       how many nodes at the front of ws are certain, if they are looked for
+--   went_if look P fs ws       how many nodes at the front of ws are certain, if they are looked for
 --   Opening, opening P n s     what the opening of an element named n comes to: the frames, how many waiting nodes go out (went), whether
 --                      all of them and the newcomer do (all), whether the newcomer waits if not (joins)
 --   over limit s o     the opening o leaves more than limit nodes waiting
---  opens s o, quick_open P n s        the next state and what is handed out
+--   opens s o, quick_open P n s        the next state and what is handed out
 --   cut level l xs     the end of xs that is at level l (from), and what stands before it
 --   Closing, closing P s       what a close comes to: the frames, the nodes that still wait, how many of them go out
---  closes s c, quick_close P s        the next state and what is handed out
---  quick_act P e s     the event e
+--   closes s c, quick_close P s        the next state and what is handed out
+--   quick_act P e s     the event e
 --
 -- Assumes nothing. That this is the engine, on the states that the meaning prescribes (Quick.Of), is shown in Quick.Theorem;
 -- what a session reads off such a state is in Quick.Reads.
 pub mod Of
-pub mod Lists
-pub mod Snoc
-pub mod Kept
-pub mod Lookup
-pub mod Grow
-pub mod Waits
-pub mod Open
-pub mod Close
-pub mod Reads
-pub mod Theorem
 use Rattle.std.specs.Prelude.{ℕ, suc, pred, ◌+◌, ◌-◌, Bool, true, false, not, ◌&&◌, eqb, leb, ltb, length, get_or, take, drop}
 use mathlib.Core.List.{List, [], ◌∷◌, ◌++◌, map, drop_last}
 use Rattle.meaning.specs.Stream.{Event}

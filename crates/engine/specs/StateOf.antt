@@ -1,18 +1,14 @@
 -- The state that the meaning prescribes for a document. The engine's invariant is an equation with it.
 --
 --   ops q              the meaning's sets, readys and needs, as the engine wants them; what is below is a set like any other
---  frames_of q d rs rp     the open elements of the content d, around which the readys are rs (sure) and rp (open reading)
+--   frames_of q d rs rp     the open elements of the content d, around which the readys are rs (sure) and rp (open reading)
 --   places q d         where each node of d waits and what it needs there, in document order
 --   number i xs        places as waiting nodes, the first having number i;  number_of w: the number of one
---  frames_at q d, nodes q d     the same of a whole document: its open elements, all its nodes
+--   frames_at q d, nodes q d     the same of a whole document: its open elements, all its nodes
 --   state_of q d        the state after d: of the nodes, those held
 --
 -- Assumes nothing. The theorems are in StateOf.Theorem: an open or a close of the engine leads from state_of q d to the state_of of
 -- the next document, and hands out what is newly listed.
-pub mod Frames
-pub mod Places
-pub mod Standings
-pub mod Theorem
 use Rattle.std.specs.Prelude.{ℕ, zero, suc, false, List, [], ◌∷◌, ◌++◌, map}
 use Rattle.meaning.specs.Query.{Query, Steps}
 use Rattle.meaning.specs.Document.{Doc, done, within, count}

@@ -9,8 +9,8 @@
 --   fed take-one n s es out      the first n records of es, one event after the other; a refused event is the last
 --   resumed take-one n es r      r, and then what is left of the first n records of es
 --   Underway .. r            r is a first part of the events of es
---  goes_on left refusal room     another event is looked at; Goes: what is then known
---  record_at a es, rest_of a xs, given_back a xs ys      parts of slices as code lends them, and the slice when one is given back
+--   goes_on left refusal room     another event is looked at; Goes: what is then known
+--   record_at a es, rest_of a xs, given_back a xs ys      parts of slices as code lends them, and the slice when one is given back
 --
 -- Assumes nothing. NOT here: what one event does (Steps).
 pub mod Laws

@@ -2,9 +2,9 @@
 --
 --   Seat, seat n E N         what a step is taken at: the numbers, and the bytes of both rooms
 --   came                     what one event comes to, part by part
---  stopped_at r s            the seat s after the refusal r: all as it was but for the stop
---  came_to s out a           what a step that came to a leaves, as what one event comes to
---  step_at P s bytes out     one step with the stop (crate stop), as what one event comes to
+--   stopped_at r s            the seat s after the refusal r: all as it was but for the stop
+--   came_to s out a           what a step that came to a leaves, as what one event comes to
+--   step_at P s bytes out     one step with the stop (crate stop), as what one event comes to
 --   Whole s                  the rooms are as long as they must be, and what is said by 0 or not 0 is said by 0 or 1
 --   FeedGives P s es out r s' out'      THE PROMISE of `feed`: its result r, the numbers and rooms s' and the buffer out' on return
 --                            are what single steps come to

@@ -15,7 +15,7 @@ use mathlib.Core.List.{List, append-nil, ◌++◌}
 use lib.Dec.{eqb}
 use lib.ListN.{length, get_or, take, drop, length-take}
 use lib.Seq.{get_or-take, get_or-drop, length-take-le}
-use Rattle.text_right.specs.Quiet.{Bytes}
+use Rattle.text_right.proofs.Quiet.{Bytes}
 use Rattle.reader.specs.Feed.{Came, feed_answer}
 use Rattle.system.specs.declared.File.{File}
 use Rattle.system.specs.Marks.{ReadOver, Received, received}

@@ -1,6 +1,6 @@
 -- What a text comes to that was read to its end, or to a refused byte.
 --
---  catalogue_name        the file's name
+--   catalogue_name        the file's name
 --   Enough text          so much was read: as many bytes as are asked for, or so far that whatever follows changes nothing
 --   CatalogueRead text   the file was read, up to its end or so far
 --   Told file i es       what came of the file: its text, whose events are es and whose verdict is the intake's

@@ -2,20 +2,20 @@
 --
 --   longest                    so many bytes are asked for
 --   begun                      before the first byte
---  unread_text i input         what has come and is not read yet
+--   unread_text i input         what has come and is not read yet
 --   WithinText i n             what is unread lies in the first n bytes of the input
 --   FedText N X i u R out i' R' out'      a feed of what is unread, with the list N and its index X
 --   Asked file taken input input' r       a read that gave r bytes; or none, where so many bytes were read as are asked for
 --   TextCame file i input i' input'       the same where all that has come is read
 --   Advanced N X file i input R out i' input' R' out'     one of both, by whether something is unread
 --   end_of r q                  the refusal of a text that was read with the reader r and the refusal q
---  verdict_for i               the verdict on it
+--   verdict_for i               the verdict on it
 --
 -- Assumes nothing. NOT here: what they come to together (Intake.Laws).
 pub mod Laws
 use Rattle.std.specs.Prelude.{ℕ, ◌+◌, ◌-◌, ◌≤◌, ◌<◌, ◌⊎◌, ◌≡◌, false, List, ◌++◌, eqb, length, take, drop}
 use Rattle.choice.specs.When.{when}
-use Rattle.text_right.specs.Quiet.{Bytes}
+use Rattle.text_right.proofs.Quiet.{Bytes}
 use Rattle.modes.specs.declared.Reader.{Reader}
 use Rattle.reader.specs.Fed.{fresh_reader}
 use Rattle.reader.specs.Feed.{feed_answer, finish_answer}

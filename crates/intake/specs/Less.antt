@@ -1,6 +1,6 @@
 -- The turns end.
 --
---  text_left i           how much is still to come at most: bytes to be read, bytes to be asked for, a refusal, the end
+--   text_left i           how much is still to come at most: bytes to be read, bytes to be asked for, a refusal, the end
 --   advance_less         each turn leaves less
 --
 -- Assumes nothing.

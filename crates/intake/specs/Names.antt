@@ -1,7 +1,7 @@
 -- The list of names, as it is read from its file.
 --
---  names_name            the file's name
---  most_bytes            how many bytes a list has at most: 65,533 lines of 64 bytes, each with a line feed
+--   names_name            the file's name
+--   most_bytes            how many bytes a list has at most: 65,533 lines of 64 bytes, each with a line feed
 --   few_bytes            a list that is taken has no more;  long_refused: so a longer one is refused, whatever follows
 --   FileRead name bytes Enough     a file of this name was opened and closed, and reads of it gave the bytes, up to its end, or Enough
 --   NamesRead bytes      the list of names was read, up to its end or so far that no list that begins so is taken
@@ -10,7 +10,7 @@
 -- Assumes nothing. NOT here: which lists are taken (crate listed).
 use Rattle.std.specs.Prelude.{ℕ, suc, ◌+◌, ◌*◌, ◌≤◌, ◌<◌, ◌⊎◌, ◌≡◌, refl, Bool, true, false, List, [], ◌∷◌, ◌++◌, ltb, length, take}
 use Rattle.std.proofs.Common.{arith, inl, inr, ap, length-append, length-take-le, ltb-true, ltb-false}
-use Rattle.xml.specs.Bounds.Laws.{list_limit_is, name_limit_is}
+use Rattle.xml.proofs.Bounds.Laws.{list_limit_is, name_limit_is}
 use Rattle.listed.specs.Lines.{lines_of, line_at}
 use Rattle.listed.specs.Lines.Joined.{joined, lines_joined}
 use Rattle.listed.specs.Listed.{list_answer}

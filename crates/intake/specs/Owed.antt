@@ -1,11 +1,11 @@
 -- What a text comes to: its events, and the refusal that it gets.
 --
 --   nothing              no refusal
---  verdict_by n z        the verdict on a text of n bytes of which the machine came to z
---  text_verdict t        THE VERDICT on a text: the refusal and its byte, counted from 1, or 0 and 0
---  text_events t         its events, those before the refused byte if there is one
+--   verdict_by n z        the verdict on a text of n bytes of which the machine came to z
+--   text_verdict t        THE VERDICT on a text: the refusal and its byte, counted from 1, or 0 and 0
+--   text_events t         its events, those before the refused byte if there is one
 --   number_in names w     the number of a name by a list
---  text_records names t  the records of the events
+--   text_records names t  the records of the events
 --   refused_later, refused_same      what follows a refused byte changes nothing of this
 --
 -- Assumes nothing. NOT here: which texts are read, and with which events (crate xml), what a list of names may have (crate listed).

@@ -1,7 +1,7 @@
 -- The refusals for what a caller lends, by its lengths.
 --
---  refuse_room elements nodes        the refusal for the lent room, or 0;  RoomFits: what is known where it is 0
---  refuse_lent out elements nodes    the same for all that an event is lent;  LentFits
+--   refuse_room elements nodes        the refusal for the lent room, or 0;  RoomFits: what is known where it is 0
+--   refuse_lent out elements nodes    the same for all that an event is lent;  LentFits
 --
 -- Assumes nothing. NOT here: when room is too small (crate meaning, Answer).
 pub mod Laws

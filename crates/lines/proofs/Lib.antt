@@ -1,3 +1,4 @@
-pub mod DecimalLaws
-pub mod PutLaws
-pub mod TextLaws
+-- The proofs of crate lines.
+pub mod Decimal
+pub mod Put
+pub mod Text

@@ -3,13 +3,13 @@
 --   digit d          the character of a digit under 10
 --   numeral k n      the decimal numeral of n, of at most k digits
 --   decimal n        the decimal numeral of n: its digits, the highest first, with no zero in front; 0 is "0"
---  is_digit c        the character is a digit
+--   is_digit c        the character is a digit
 --   Digits cs        all the characters are digits
---  value_from v cs   the number that is read where cs follows a numeral of v
+--   value_from v cs   the number that is read where cs follows a numeral of v
 --   value cs         the number that a numeral is read as
 --   Numeral cs       cs is a decimal numeral: digits, at least one, and no zero in front of another
 --
--- Assumes nothing. NOT here: that decimal n is the one numeral that is read as n (proofs/DecimalLaws).
+-- Assumes nothing. NOT here: that decimal n is the one numeral that is read as n (proofs/Decimal/Laws).
 use Rattle.std.specs.Prelude.{ℕ, zero, suc, ◌+◌, ◌-◌, ◌*◌, ◌/◌, ◌%◌, ◌≤◌, ◌<◌, cond, List, [], ◌∷◌, ◌++◌, ltb}
 
 -- 48 is the character 0

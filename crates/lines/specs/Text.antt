@@ -2,12 +2,12 @@
 --
 --   line n              the decimal numeral of n on a line of its own
 --   lines_of ns          such a line for each of ns
---  end_word, refused_word, at_word, reason_word      the texts "end ", "refused ", " at ", " reason "
---  end_line n           the line "end N"
---  refusal_text r e     the text "refused R at E"
---  refused_at_line r e   the line "refused R at E"
---  refused_for_line r e n      the line `refused R at E reason N`
---  refused_line r       the line "refused R"
+--   end_word, refused_word, at_word, reason_word      the texts "end ", "refused ", " at ", " reason "
+--   end_line n           the line "end N"
+--   refusal_text r e     the text "refused R at E"
+--   refused_at_line r e   the line "refused R at E"
+--   refused_for_line r e n      the line `refused R at E reason N`
+--   refused_line r       the line "refused R"
 --
 -- Assumes nothing. NOT here: which lines the program writes when (crate pick), the nodes in list records (crate records, Write), passed on.
 use Rattle.std.specs.Prelude.{ℕ, List, [], ◌∷◌, ◌++◌}

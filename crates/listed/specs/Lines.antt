@@ -1,9 +1,9 @@
 -- A list of names as lines of bytes.
 --
---  line_feed         the byte that ends a line
+--   line_feed         the byte that ends a line
 --   lines_of names    the lines of a list, without their line feeds: what stands after the last line feed is a line only if it has bytes
 --   onto b ls        b at the front of the first line
---  line_length t     how many bytes stand before the first line feed
+--   line_length t     how many bytes stand before the first line feed
 --   line_at ls k      the line that has k lines before it
 --   start_of ls k     where it begins among the bytes
 --

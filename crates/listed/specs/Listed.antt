@@ -1,11 +1,11 @@
 -- Which lines a list of names may have, and the answer to a list.
 --
---  all_in c t            every byte of t is in the class c
---  is_name line          the line is a Name, of any length
---  fault_of n line       the refusal that line number n gets, 0 where it is fine
+--   all_in c t            every byte of t is in the class c
+--   is_name line          the line is a Name, of any length
+--   fault_of n line       the refusal that line number n gets, 0 where it is fine
 --   Listing              the answer: a refusal and a line;  fine, refused r n: its two kinds
---  answer_from n ls      the answer to the lines ls, of which the first is number n: the first line at fault decides
---  list_answer names     THE ANSWER to a list
+--   answer_from n ls      the answer to the lines ls, of which the first is number n: the first line at fault decides
+--   list_answer names     THE ANSWER to a list
 --
 -- Assumes nothing. NOT here: the same in words (Listed.Laws).
 pub mod Laws

@@ -2,13 +2,12 @@
 --
 --   Offering              the events accepted by then, and the number of the refusal, if there was one
 --   offer bs              the call that offers the first record of bs, or what there is of it, and lends enough
---  unless_refused o es w  a refusal o ends it with the events es; else w
+--   unless_refused o es w  a refusal o ends it with the events es; else w
 --   offering q n es bs    the first n records of bs, offered after the accepted events es: before the first refusal no session is stopped
 --   pieces bs             how many records bs makes, a shorter last one among them
---  offering_all q bs      all of bs, from the start of a stream: "Leftover bytes under 8 are a bad record"
+--   offering_all q bs      all of bs, from the start of a stream: "Leftover bytes under 8 are a bad record"
 --
 -- Assumes nothing. NOT here: the answer to one call (Answer), what is written for all this (crate pick, Program).
-pub mod Laws
 use Rattle.std.specs.Prelude.{ℕ, zero, suc, ◌+◌, ◌/◌, List, [], length, take, drop}
 use Rattle.std.proofs.Math.Option.{Option, none, some}
 use Rattle.meaning.specs.Query.{Query}

@@ -1,15 +1,14 @@
 -- The refusal numbers and the reasons, each in this one place, and the order in which refusals are given.
 --
---  short_output, bad_record, after_end, wrong_close, too_deep, too_many_nodes, too_many_held, short_room      an event's
+--   short_output, bad_record, after_end, wrong_close, too_deep, too_many_nodes, too_many_held, short_room      an event's
 --   unfinished                finish's
---  already_stopped            an event's and finish's
---  bad_length, bad_step        the query's (crate query)
---  bad_axis, bad_role, bad_hang, bad_zero, forbidden      the reasons that come with bad_step (crate query, Reasons)
+--   already_stopped            an event's and finish's
+--   bad_length, bad_step        the query's (crate query)
+--   bad_axis, bad_role, bad_hang, bad_zero, forbidden      the reasons that come with bad_step (crate query, Reasons)
 --   rank r                    where refusal r comes among the refusals: of those that apply, the one with the lowest rank is given
 --   stops r                   a session that has given refusal r is stopped
 --
 -- Assumes nothing. NOT here: when each applies (Answer), the limits (Limits), the order in plain words (Refusals.Laws).
-pub mod Laws
 use Rattle.std.specs.Prelude.{ℕ, ◌*◌, Bool, true, false, ◌&&◌, eqb, leb}
 
 -- "output buffer under 4,100 bytes"

@@ -1,12 +1,12 @@
 -- The reader's moves.
 --
---  after_place             the place after the document element
+--   after_place             the place after the document element
 --   open_at p               how many elements are open at the place p: so, too, the slot of the one that was just closed
---  go_to r m               on in the mode m;  stay_in r m: with nothing else changed
---  refuse_with r x         stopped by the refusal x, where it stands
---  spell_on r m row n      on in a spelling, n bytes of which were read
---  go_aside r m n k        on in the mode m, to come back to k
---  give_out r g m p        events are given, and the reader is at the place p
+--   go_to r m               on in the mode m;  stay_in r m: with nothing else changed
+--   refuse_with r x         stopped by the refusal x, where it stands
+--   spell_on r m row n      on in a spelling, n bytes of which were read
+--   go_aside r m n k        on in the mode m, to come back to k
+--   give_out r g m p        events are given, and the reader is at the place p
 --   count_to r m k          the count is k
 --
 -- Assumes nothing.

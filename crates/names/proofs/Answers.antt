@@ -18,7 +18,7 @@ use Rattle.xml.specs.Refused.{scant}
 use Rattle.listed.specs.Listed.{refused, list_answer}
 use Rattle.listed.specs.declared.Listing.{Listing}
 use Rattle.chains.specs.Index.{index_words, built}
-use Rattle.chains.specs.Index.Room.{index_words_is}
+use Rattle.chains.proofs.Index.Room.{index_words_is}
 use Rattle.names.specs.Answer.{build_answer, index_after, BuildGives}
 
 module _ (names x : List ℕ) where

@@ -1,6 +1,6 @@
 -- The answer of a build, and the words after it.
 --
---  build_answer names x       the answer: 45 where an index has no room in the words x, else the answer to the list
+--   build_answer names x       the answer: 45 where an index has no room in the words x, else the answer to the list
 --   index_after names x        the words after it: x where the build is refused, else the index of the list in x
 --   BuildGives names x y r    THE PROMISE of `build`: from the words x it makes y, and answers r
 --

@@ -1,10 +1,10 @@
 -- The first place of a word among some lines.
 --
---  first_from n ls w     its first place, where the first of ls is place n, or 65,534
---  first_place ls w      THE FIRST PLACE of w, from 1, or 65,534
+--   first_from n ls w     its first place, where the first of ls is place n, or 65,534
+--   first_place ls w      THE FIRST PLACE of w, from 1, or 65,534
 --   StandsAt ls w p      w stands at place p, and at none before
 --   Unlisted ls w        w stands nowhere
---  stands_exactly, unlisted_exactly      first_place says so exactly then
+--   stands_exactly, unlisted_exactly      first_place says so exactly then
 --   place_within         it is a number from 1 to 65,534
 --
 -- Assumes nothing.
@@ -12,7 +12,7 @@ use Rattle.std.specs.Prelude.{ℕ, zero, suc, ◌+◌, ◌≤◌, ◌<◌, ◌�
 use Rattle.std.proofs.Common.{arith, sym, subst, ◌∙◌}
 use Rattle.choice.specs.When.{when, never, when_known}
 use Rattle.xml.specs.Bounds.{list_limit, unknown_name}
-use Rattle.xml.specs.Bounds.Laws.{list_limit_is, unknown_is}
+use Rattle.xml.proofs.Bounds.Laws.{list_limit_is, unknown_is}
 use Rattle.xml.specs.Grammar.{same_name}
 use Rattle.listed.specs.Lines.{line_at}
 use Rattle.spelling.specs.Same.{same_exactly}

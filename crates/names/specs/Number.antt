@@ -2,10 +2,10 @@
 -- place ends a chain, and no chain is longer than a list may be.
 --
 --   entry_of p                   where the two words of place p stand
---  spelled_at names from n w    the word w is what stands in the list from byte `from` on, n bytes
---  fits_at names x w p          w is what stands at place p by the index x
+--   spelled_at names from n w    the word w is what stands in the list from byte `from` on, n bytes
+--   fits_at names x w p          w is what stands at place p by the index x
 --   next_of x p                  the next place in its chain
---  is_place p                   p is the number of a place
+--   is_place p                   p is the number of a place
 --   walked names x w n p        from p along its chain, n places at most: the first where w fits, or 65,534
 --   number_of names x w          THE NUMBER of a word
 --

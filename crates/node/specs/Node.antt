@@ -1,9 +1,9 @@
 -- The waiting nodes as they stand in lent bytes: a record of 8 numbers for each.
 --
 --   shape               a node's record: its waiting node (crate engine, Quick) is its first numbers, one for each field
---  Queue               all records: their waiting nodes, used or not, and their spare numbers;  queue_in bs: those in bytes
---  node_at N i          the waiting node of record i
---  wrote_in             what `write` does, to record i alone
+--   Queue               all records: their waiting nodes, used or not, and their spare numbers;  queue_in bs: those in bytes
+--   node_at N i          the waiting node of record i
+--   wrote_in             what `write` does, to record i alone
 --
 -- There are as many records as nodes may be held (crate meaning, Limits).
 -- Assumes nothing. NOT here: how many of the records are in use (crate step).

@@ -2,13 +2,13 @@
 -- were. A loop is a function that goes on from where the loop stands.
 --
 --   with ws N                 the records N with the waiting nodes ws
---  level_of w, numbers ws     the level of a node; the numbers of nodes
+--   level_of w, numbers ws     the level of a node; the numbers of nodes
 --   Moved                     how many nodes wait, and the records
---  kept_if stays end .. N     record `end` is this node where it stays
---  moved_from P m ready to held i end N    the nodes from i to `held` move up to level `to` and stand from `end` on; those ruled out leave
+--   kept_if stays end .. N     record `end` is this node where it stays
+--   moved_from P m ready to held i end N    the nodes from i to `held` move up to level `to` and stand from `end` on; those ruled out leave
 --   shifted k held i N        the nodes from i + k to `held` stand from i on
 --   Handed                    the records and the buffer
---  handed_out k held N out    the first k of `held` nodes are handed out
+--   handed_out k held N out    the first k of `held` nodes are handed out
 --   Joined                    how many nodes wait, the records and the buffer
 --   joined go held number level N out      the nodes that go are handed out; the new node goes too, or joins, or is ruled out
 --

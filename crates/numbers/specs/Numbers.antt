@@ -2,10 +2,10 @@
 --
 --   Numbers             how many elements are open, how many nodes wait, were opened and were handed out, whether the document element has been
 --                       closed (not 0), and whether the session is stopped (not 0)
---  shape               their record;  numbers_room: how many bytes it takes
---  record_in bs, numbers_in bs         the record in bytes, and the numbers in it
---  numbers_of           the numbers one by one
---  with_stop v n        the numbers n, with v for whether the session is stopped
+--   shape               their record;  numbers_room: how many bytes it takes
+--   record_in bs, numbers_in bs         the record in bytes, and the numbers in it
+--   numbers_of           the numbers one by one
+--   with_stop v n        the numbers n, with v for whether the session is stopped
 --   Said n              what is said by 0 or not 0 is said by 0 or 1
 --
 -- Assumes nothing.

@@ -1,10 +1,10 @@
 -- An open before anything is handed out: the engine's own opening (crate engine, Quick) on the records in use, the others as they were.
 --
---  used_in depth held E N          the engine's state of the records in use
---  going_of o                      which nodes go at the opening o
---  Opened, opening_in P x depth held E N       an opening of x: which nodes go, and the open elements;  opened_by: by what the opening comes to
---  all_go, no_place                 all that wait go, and the new node with them; the new node has no place
---  over_in P x depth held E N      an opening of x leaves more nodes waiting than there are records
+--   used_in depth held E N          the engine's state of the records in use
+--   going_of o                      which nodes go at the opening o
+--   Opened, opening_in P x depth held E N       an opening of x: which nodes go, and the open elements;  opened_by: by what the opening comes to
+--   all_go, no_place                 all that wait go, and the new node with them; the new node has no place
+--   over_in P x depth held E N      an opening of x leaves more nodes waiting than there are records
 --
 -- Assumes nothing. NOT here: that the records in use are the engine's state (crate right).
 pub mod Laws

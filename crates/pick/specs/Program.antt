@@ -1,10 +1,10 @@
 -- WHAT THE PROGRAM OWES, and what it promises of a run.
 --
---  last_line_of q w      the last line for a stream that came to w
+--   last_line_of q w      the last line for a stream that came to w
 --   text_of q w          all that is written for it: a line for each node listed, and the last line
---  owed_output qs es    all that is written for the files `query.rec`, whose bytes are qs, and `events.rec`, whose bytes are es;  owed_output_by: by the
+--   owed_output qs es    all that is written for the files `query.rec`, whose bytes are qs, and `events.rec`, whose bytes are es;  owed_output_by: by the
 --                       answer to the query
---  query_name, events_name     the files' names
+--   query_name, events_name     the files' names
 --   Read name bytes Same      a file of this name was opened and closed, and reads of it gave the bytes, up to its end or so far that whatever may
 --                             follow changes nothing: Same (bytes ++ more) for each more.  QueryRead, EventsRead q: what must not change
 --   Lined query text r        what is owed for the query is delivered but for what stands in the first r bytes of the text

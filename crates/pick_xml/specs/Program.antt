@@ -1,9 +1,9 @@
 -- WHAT THE PROGRAM OWES, and what it promises of a run.
 --
---  last_line_for o q es v    the last line for a text with the verdict v whose events came to es and the refusal o
+--   last_line_for o q es v    the last line for a text with the verdict v whose events came to es and the refusal o
 --   line_of st               the same, by what the turns have come to
---  picked_for q names text  all that is written for a text, by a query that is admitted and a list that is taken
---  owed_for qs names text   by the answer to the list of names;  owed_output: by the answer to the query
+--   picked_for q names text  all that is written for a text, by a query that is admitted and a list that is taken
+--   owed_for qs names text   by the answer to the list of names;  owed_output: by the answer to the query
 --   TextEnough q names text     so much was read: as many bytes as are asked for, or so far that whatever follows changes nothing of what is owed
 --   QueryRead, TextRead         the query's file, and that of the text, were read
 --   TextLined, NamesLined, Lined     what is owed is delivered but for what stands in the first r bytes of the lines: the last line of a text; all for a list

@@ -22,8 +22,8 @@ use Rattle.meaning.specs.Query.{Step, Numbered, main_if, main_path}
 use Rattle.query.specs.Rules.{most_steps}
 use Rattle.query.specs.Decode.{decode_from}
 use Rattle.plan.specs.Order.{predicate_if, predicates, back_path, order}
-use Rattle.plan.specs.Places.Laws.{order_length}
-use Rattle.query.specs.Decode.Laws.{from_length}
+use Rattle.plan.proofs.Places.Laws.{order_length}
+use Rattle.query.proofs.Decode.Laws.{from_length}
 use Rattle.plan.specs.Planned.{step_at, before, placed, zeros, order_of}
 
 abbrev numbers_of : List Numbered → List ℕ

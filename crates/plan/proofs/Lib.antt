@@ -12,3 +12,7 @@ pub mod Filling
 pub mod Buckets
 pub mod Laying
 pub mod Made
+pub mod Asked
+pub mod Places
+pub mod Plan
+pub mod Planned

@@ -23,13 +23,13 @@ use Rattle.query.specs.Rules.{most_steps, steps}
 use Rattle.query.specs.Decode.{decode_from}
 use Rattle.plan.specs.Every.{every_map, every_all}
 use Rattle.plan.specs.Order.{order, mask}
-use Rattle.plan.specs.Places.Laws.{order_length}
-use Rattle.plan.specs.Places.Plan.{none_hangs, first_order}
+use Rattle.plan.proofs.Places.Laws.{order_length}
+use Rattle.plan.proofs.Places.Plan.{none_hangs, first_order}
 use Rattle.plan.specs.Plan.{plan}
 use Rattle.plan.specs.Asked.{stars_of, bucket}
 use Rattle.plan.specs.Planned.{step_at, size_of, passed, before, zeros, filled, padded, order_of, bucket_count, several_steps, columns, plan_of}
-use Rattle.query.specs.Decode.Laws.{from_length}
-use Rattle.plan.specs.Planned.Steps.{Whose, order_whose, read_table, read_mask}
+use Rattle.query.proofs.Decode.Laws.{from_length}
+use Rattle.plan.proofs.Planned.Steps.{Whose, order_whose, read_table, read_mask}
 use Rattle.plan.specs.declared.Plan.{Plan}
 use Rattle.plan.specs.declared.Test.{Test}
 use Rattle.plan.specs.declared.Test.TheVariants.{OnMain, Starts, Deep, Star}

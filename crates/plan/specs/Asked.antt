@@ -7,18 +7,17 @@
 --   finds A x t        the name x finds step t: a star, or a step that it is compared with and that asks for it;  quick A x: the steps that it finds
 --   nobody             a test that no name of 4 bytes passes
 --   test_of A t         the test of step t that `quick` goes by: nobody for a step that is not compared with its own name
---  stars_of T          the stars of the tests T
+--   stars_of T          the stars of the tests T
 --   belongs w s n      the test n asks for a name of bucket s of w
---  added_to m t l      what a bucket says with step t before the steps for which it says l
---  bucket_from m w s t T      what bucket s of w says for the tests T of the steps from t on: the only step that asks for a name of it, m for several,
+--   added_to m t l      what a bucket says with step t before the steps for which it says l
+--   bucket_from m w s t T      what bucket s of w says for the tests T of the steps from t on: the only step that asks for a name of it, m for several,
 --                      0 for none
 --   bucket m w T s     the same for all steps
 --   filed m w t n B    the buckets B with step t added, which has the test n and comes before the steps that they know
---  place_by few n b    where the step stands that is compared, by what the bucket says: of few steps all are
+--   place_by few n b    where the step stands that is compared, by what the bucket says: of few steps all are
 --   asking few m w T   what is kept for the tests T
 --
 -- Assumes nothing. NOT here: that `quick` on what is kept for tests tells the steps that pass them (Asked.Laws).
-pub mod Laws
 use Rattle.std.specs.Prelude.{ℕ, suc, ◌%◌, Bool, not, ◌&&◌, ◌||◌, cond, List, [], ◌∷◌, eqb, ltb, length, get_or, set}
 use Rattle.meaning.specs.Name.{star}
 use Rattle.sets.specs.Set.{member, mask_of}

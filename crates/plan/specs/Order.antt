@@ -1,7 +1,7 @@
 -- The order in which a query's steps are given bits, and the mask of a set of steps in any such order.
 --
 --   predicates q i     the predicate steps of q with their numbers, the first step having number i
---  back_path q         the main path from its last step to its first: the step after one is the one before it in this list
+--   back_path q         the main path from its last step to its first: the step after one is the one before it in this list
 --   order q            the path, then the predicate steps: the last main-path step is bit 0
 --   any_of ps A         some step of the list ps is in A
 --   at ps A t          the step of ps at place t is in A; false past the end

@@ -7,9 +7,6 @@
 --   PlanRight q P       P keeps of each step what document 01 says of it, at its place
 --
 -- Assumes nothing. NOT here: that the order and the plan of an admitted query are right (Places.Order, Places.Plan).
-pub mod Laws
-pub mod Order
-pub mod Plan
 use Rattle.std.specs.Prelude.{ℕ, zero, suc, pred, ◌^◌, ◌<◌, ◌≡◌, true, false, List, [], ◌∷◌, ◌↔◌, ltb, length, get_or}
 use Rattle.meaning.specs.Query.{Step, Query, At, Numbered, hangs, goes_deep, last_main}
 use Rattle.sets.specs.Set.{member, one}

@@ -6,13 +6,12 @@
 --   meets P pass K     the steps that an element meets whose name passes `pass` and in whose content K is met
 --   lift P M K         what an element meeting M, with K met in its content, amounts to for those above it: of M the predicate steps
 --   turn P M r         the main-path steps whose turn it is in the content of an element that meets M, r being whose turn it is around it
---  last_given M r      the last main-path step is given to an element that meets M where r is whose turn it is
+--   last_given M r      the last main-path step is given to an element that meets M where r is whose turn it is
 --   up P M need        what a node needs around an element that meets M; a need of 0 stands for the element itself
 --
 -- In the order of q the step after a main-path step is one bit lower, so a turn that comes is a shift to the right, and a need that moves
 -- up a shift to the left; the last step's bit falls out. Assumes nothing. NOT here: what the masks are as numbers (Plan.Laws), that these
 -- are the meaning's operations (MaskOps.Laws).
-pub mod Laws
 use Rattle.std.specs.Prelude.{ℕ, ◌*◌, ◌/◌, Bool, true, false, not, List, map, eqb, length, get_or}
 use Rattle.meaning.specs.Name.{passes}
 use Rattle.meaning.specs.Query.{Query, all_step, hangs, goes_deep}

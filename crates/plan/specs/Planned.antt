@@ -1,6 +1,6 @@
 -- What plan is made of a query's bytes.
 --
---  step_at q s         the step of the bytes q that has s steps before it
+--   step_at q s         the step of the bytes q that has s steps before it
 --   size_of n           how many of n steps are planned
 --   planned q          the query that is planned: the first steps that the bytes mean, 32 at most
 --   starts st          st is on the main path and hangs on the document
@@ -11,7 +11,7 @@
 --   filled xs          32 slots: xs, then 0
 --   padded n f         32 slots: f t in slot t under n, 0 in the others
 --   order_of q n        the first n steps of the bytes q in the order of their places, as the numbers of steps before them
---  bucket_count        how many buckets the names are put into;  several_steps: what a bucket says for several steps
+--   bucket_count        how many buckets the names are put into;  several_steps: what a bucket says for several steps
 --   columns P          a plan as the code's struct
 --   plan_of q           the plan that is made of the bytes q
 --   PlanGives q r      THE PROMISE of `plan_of`: r is that plan
@@ -19,9 +19,6 @@
 --   Long r             r has 32 slots in each column, 64 buckets, and 32 steps at most
 --
 -- Assumes nothing. NOT here: the plan of a query (Plan), that plan_of is that of an admitted query (Planned.Laws).
-pub mod Steps
-pub mod Laws
-pub mod Examples
 use Rattle.std.specs.Prelude.{ℕ, ◌+◌, ◌-◌, ◌≤◌, min, ◌≡◌, Bool, true, false, ◌&&◌, List, ◌++◌, map, eqb, length, replicate}
 use Rattle.meaning.specs.Name.{star}
 use Rattle.meaning.specs.Query.{Step, Query, Numbered, hangs, goes_deep}

@@ -1,15 +1,15 @@
 -- What a session keeps of its query, as it stands in lent bytes: 72 numbers of 4 bytes.
 --
---  plan_room            how many bytes it takes
---  few_steps            of fewer steps a name is compared with all
---  size_in bs           how many steps there are: 32 at most
---  name_in bs t         the name that step t asks for, in 2 bytes;  bucket_in bs s: what bucket s says, in one
---  asking_in bs         what the bytes keep for the name tests
---  kept_in bs           the plan that bytes stand for: any bytes stand for one. Its name tests are those by which its steps are found (test_of)
---  set_of which P       one of its sets of steps
+--   plan_room            how many bytes it takes
+--   few_steps            of fewer steps a name is compared with all
+--   size_in bs           how many steps there are: 32 at most
+--   name_in bs t         the name that step t asks for, in 2 bytes;  bucket_in bs s: what bucket s says, in one
+--   asking_in bs         what the bytes keep for the name tests
+--   kept_in bs           the plan that bytes stand for: any bytes stand for one. Its name tests are those by which its steps are found (test_of)
+--   set_of which P       one of its sets of steps
 --   slots l             the first 32 of l, 0 past its end;  slot l t: number t of them
 --   pairs l, fours l    32 numbers of 2 bytes as 16 of 4;  64 of one byte as 16 of 4.  pair l i, four l i: number i of them
---  packed_over p ws     the numbers ws with those of the plan p written over them;  packed p: over zeros
+--   packed_over p ws     the numbers ws with those of the plan p written over them;  packed p: over zeros
 --
 -- Assumes nothing. NOT here: that the plan of a query is read as it was packed (Kept.Packed, Kept.Planned).
 pub mod Laws

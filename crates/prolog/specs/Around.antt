@@ -1,9 +1,9 @@
 -- One byte around the document element, but for markup and the parts of the XML declaration.
 --
 --   around M r b next        blanks, and '<', after which the mode is `next`
---  start_tick, mark_tick      at the start of the text; in the byte order mark
---  xml_tick, declared_tick    in "<?xml"; after it
---  query_tick                after the declaration's '?'
+--   start_tick, mark_tick      at the start of the text; in the byte order mark
+--   xml_tick, declared_tick    in "<?xml"; after it
+--   query_tick                after the declaration's '?'
 --
 -- M are the marks of the bytes. Assumes nothing. NOT here: that these are the machine's steps (crate text_right).
 use Rattle.std.specs.Prelude.{ℕ, ◌+◌, List, [], ◌∷◌, eqb, leb, get_or}

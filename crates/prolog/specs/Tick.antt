@@ -1,6 +1,6 @@
 -- One byte in a mode of the prolog, mode by mode.
 --
---  prolog_tick m M r b      the reader after the byte b;  in_mode: by the mode that was found
+--   prolog_tick m M r b      the reader after the byte b;  in_mode: by the mode that was found
 --
 -- M are the marks of the bytes. Assumes nothing.
 use Rattle.std.specs.Prelude.{ℕ, ◌≡◌, List}

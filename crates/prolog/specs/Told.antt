@@ -1,11 +1,11 @@
 -- One byte of a part of the XML declaration. The parts are 1 version, 2 encoding, 3 standalone; 0 for none.
 --
---  part_byte p k, value_byte row k      byte k of a part's name; of a value: row 1 is 1.0, row 2 utf-8, row 3 yes, row 4 no; 0 past the end
---  value_row row k b                   the row after byte k, which is b;  part_of row: its part
+--   part_byte p k, value_byte row k      byte k of a part's name; of a value: row 1 is 1.0, row 2 utf-8, row 3 yes, row 4 no; 0 past the end
+--   value_row row k b                   the row after byte k, which is b;  part_of row: its part
 --   small row b                        a capital of an encoding as its small letter
---  value_refusal row                   what another value is refused with
---  piece_tick, told_tick                between two parts, after a blank and before one
---  part_tick, part_equals_tick, part_value_tick, quoted_tick      in a part's name, after it, after its '=', in its value
+--   value_refusal row                   what another value is refused with
+--   piece_tick, told_tick                between two parts, after a blank and before one
+--   part_tick, part_equals_tick, part_value_tick, quoted_tick      in a part's name, after it, after its '=', in its value
 --
 -- M are the marks of the bytes. Assumes nothing. NOT here: that these are the machine's steps (crate text_right).
 pub mod Laws

@@ -1,7 +1,7 @@
 -- What is asked of the room that an event is lent, and which room the session has after it.
 --
 --   SameUsed l E N            the room E and N has the records in use as the room of l has them; the rest is anything
---  left_by l E N s E' N'      the session s and its room after an event that was lent E and N and left E' and N': room that is too small is not touched, so
+--   left_by l E N s E' N'      the session s and its room after an event that was lent E and N and left E' and N': room that is too small is not touched, so
 --                             the records stay where they were
 --
 -- The records in use are the first ones, as many as elements are open and nodes held. Assumes nothing.

@@ -23,11 +23,11 @@ use Rattle.meaning.specs.Standing.{listed, held}
 use Rattle.meaning.specs.Stream.{run, document, always, Stream}
 use Rattle.meaning.specs.Answer as meaning
 use Rattle.meaning.specs.Answer.{Call, Past, going, too_small, finish_refusals, refusals, first_or, first, yield, answer_if, answer, after_all}
-use Rattle.meaning.specs.Answer.Bounds.{Bounded, accepted_within}
+use Rattle.meaning.proofs.Answer.Bounds.{Bounded, accepted_within}
 use Rattle.query.specs.Answer as checked
 use Rattle.query.specs.Answer.{answer_to}
 use Rattle.query.specs.Decode.{decode, Bytes, Meant}
-use Rattle.query.specs.Decode.Laws.{meant}
+use Rattle.query.proofs.Decode.Laws.{meant}
 use Rattle.plan.specs.Plan.{plan}
 use Rattle.plan.specs.Planned.{plan_of}
 use Rattle.plan_bytes.specs.Kept.{kept_in}

@@ -6,8 +6,8 @@
 --                          Lending): the rest of it is anything. Room that is too small is not touched, so the records stay where they were (left_by)
 --   Reached b us rs l       begin admitted the bytes b, and its session was used so: l is a session and room that calls reach
 --   call_of, answer_of        a use as a call of the meaning; a reply as document 01's answer (`told`, `ended`)
---  written_in r             the bytes of the list records at the start of the buffer that a reply left;  records_by a out: the same, by the answer a
---  stream_of b us           the accepted events;  nodes_of rs: the nodes that the list records in the buffers name;  waiting l: the nodes waiting in l
+--   written_in r             the bytes of the list records at the start of the buffer that a reply left;  records_by a out: the same, by the answer a
+--   stream_of b us           the accepted events;  nodes_of rs: the nodes that the list records in the buffers name;  waiting l: the nodes waiting in l
 --   Begins b E N r          what is promised of begin's result r for the bytes b and the room E and N
 --   Promised b us rs l      what is promised of the replies rs, of the session and of its room, after each of the uses (`first_part`)
 --   Ceased b us rs l us' rs' k      what is promised of further uses of a stopped session: nothing changes any more
@@ -37,7 +37,7 @@ use Rattle.meaning.specs.Selection.{sure-reading}
 use Rattle.meaning.specs.Explicit.{Selected}
 use Rattle.meaning.specs.Explicit.Demands.{SelectedByNone, ListedBy, HeldBy}
 use Rattle.meaning.specs.Continuation.{Opened}
-use Rattle.meaning.specs.Standing.Laws.{Rising}
+use Rattle.meaning.proofs.Standing.Laws.{Rising}
 use Rattle.meaning.specs.Stream.{Event, document, Stream}
 use Rattle.meaning.specs.Answer.{Call, Answer, refused, taken, going, too_small, answers, after_all, handed_out}
 use Rattle.query.specs.Answer as query

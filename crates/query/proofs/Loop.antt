@@ -23,7 +23,7 @@ use Rattle.meaning.specs.Refusals.{bad_step}
 use Rattle.meaning.specs.Table.{first}
 use Rattle.query.specs.Rules.{step_bytes, steps, step_of, is_main, nearest}
 use Rattle.query.specs.Reasons.{reasons, reasons_with, lowest}
-use Rattle.query.specs.Reasons.Laws.{reasons_is, lowest_some, lowest_none}
+use Rattle.query.proofs.Reasons.Laws.{reasons_is, lowest_some, lowest_none}
 use Rattle.query.specs.Answer.{admitted, refused_at, if_none, judged_from, judged}
 
 abbrev pub part_at : List ℕ → ℕ → List ℕ

@@ -9,17 +9,16 @@ use Prim.Native.Nat.{ℕ}
 use mathlib.Core.Path.{◌≡◌, refl, sym, ◌∙◌}
 use mathlib.Core.Bool.{Bool, true, false, not}
 use mathlib.Core.List.{List, [], ◌∷◌}
-use borrow.Author.Tests.{not-true, not-false}
 use Rattle.meaning.specs.Table.{Refusal, refusal, first_or, first}
 use Rattle.query.specs.Reasons.{lowest}
 
-pub kept : (r t : Bool) (n x : ℕ) (rs : List Refusal) → r ≡ t → not r ≡ false → x ≡ lowest rs → x ≡ lowest (refusal n (not t) ∷ rs)
+pub kept : (r t : Bool) (n x : ℕ) (rs : List Refusal) → r ≡ t → r ≡ true → x ≡ lowest rs → x ≡ lowest (refusal n (not t) ∷ rs)
 unfolding lowest first first_or
-kept r t n x rs told is e = rw (sym told ∙ not-false r is) e
+kept r t n x rs told is e = rw (sym told ∙ is) e
 
-pub broken : (r t : Bool) (n : ℕ) (rs : List Refusal) → r ≡ t → not r ≡ true → n ≡ lowest (refusal n (not t) ∷ rs)
+pub broken : (r t : Bool) (n : ℕ) (rs : List Refusal) → r ≡ t → r ≡ false → n ≡ lowest (refusal n (not t) ∷ rs)
 unfolding lowest first first_or
-broken r t n rs told is = rw (sym told ∙ not-true r is)
+broken r t n rs told is = rw (sym told ∙ is)
 
 pub none_left : (n : ℕ) → 0 ≡ lowest (refusal n false ∷ [])
 unfolding lowest first first_or

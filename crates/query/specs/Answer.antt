@@ -5,13 +5,12 @@
 --   FirstBreaking q k r  the length is right, step k is the first that breaks a rule, reason r applies to it and no lower one does
 --   Kept q               the length is right and every step keeps every rule
 --   Owed q a             a is the answer that document 01 gives q
---  judged_from q n s     the answer of n steps, of which the first has s steps before it: the first that breaks a rule decides
+--   judged_from q n s     the answer of n steps, of which the first has s steps before it: the first that breaks a rule decides
 --   judged q             the answer of a query of right length
---  answer_to q           the answer to the bytes q
+--   answer_to q           the answer to the bytes q
 --   CheckGives q r       THE PROMISE of `check`: r, as it stands for an answer, is the answer to q
 --
 -- Assumes nothing. NOT here: the rules (Rules) and the reasons (Reasons); that `answer_to` gives exactly what is owed (Answer.Laws).
-pub mod Laws
 use Rattle.std.specs.Prelude.{ℕ, zero, suc, ◌≤◌, ◌<◌, ◌≡◌, Bool, true, false, List, length}
 use Rattle.std.proofs.Math.Option.{Option, none, some}
 use Rattle.meaning.specs.Refusals.{bad_length, bad_step}

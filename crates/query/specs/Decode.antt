@@ -1,14 +1,13 @@
 -- What the bytes of a query mean: a query of crate meaning.
 --
---  axis_meant a      the axis that a named axis byte means
---  decode_step r     the step that a record means
+--   axis_meant a      the axis that a named axis byte means
+--   decode_step r     the step that a record means
 --   decode_from q n s n steps of q, of which the first has s steps before it
 --   decode q         the query that the bytes q mean
 --   Meant q          what every admitted query gives the theorems of crate meaning
 --   Shaped q         the length is right, and each step has an axis, a role and its zeros: all but what it hangs on
 --
 -- Assumes nothing. NOT here: that an admitted query is meant (Decode.Laws).
-pub mod Laws
 use Rattle.std.specs.Prelude.{ℕ, zero, suc, ◌*◌, ◌≤◌, ◌<◌, ◌≡◌, true, false, List, [], ◌∷◌, T, length}
 pub use Rattle.meaning.specs.Record.{Bytes}
 use Rattle.meaning.specs.Query.{Axis, child, descendant, Step, Query, admits}

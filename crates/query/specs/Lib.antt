@@ -2,4 +2,3 @@ pub mod Rules
 pub mod Reasons
 pub mod Answer
 pub mod Decode
-pub mod Examples

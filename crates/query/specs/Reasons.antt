@@ -1,14 +1,13 @@
 -- Why a step is at fault: the reasons of request C-18, beside refusal 10.
 --
 --   Due q s r            reason r applies to the step that has s steps before it: a constructor for each, in plain numbers
---  reasons_by axis role hang zero      the table of the reasons, by which rules a step keeps
+--   reasons_by axis role hang zero      the table of the reasons, by which rules a step keeps
 --   reasons q s          the table of the step that has s steps before it
---  reasons_with r k near the same of a record alone: step k is r, and near is the nearest main-path step before it
+--   reasons_with r k near the same of a record alone: step k is r, and near is the nearest main-path step before it
 --   lowest rs            the number of the first line of the table rs that applies, 0 where none does
 --
 -- Assumes nothing. NOT here: that the table says what is due, and that its first line that applies has the lowest reason (Reasons.Laws); what a table is (crate
 -- meaning, Table).
-pub mod Laws
 use Rattle.std.specs.Prelude.{ℕ, suc, Bool, false, not, List, [], ◌∷◌, T}
 use Rattle.std.proofs.Math.Option.{get_or}
 use Rattle.meaning.specs.Query.{hangs_right}

@@ -1,25 +1,23 @@
 -- Document 01's query rules, over the bytes of a query: a list of numbers, each under 256.
 --
---  step_bytes            the bytes of a step's record
---  most_steps, longest   the most steps of a query, and its most bytes
---  wrong_length n        a query of n bytes is refused for its length
+--   step_bytes            the bytes of a step's record
+--   most_steps, longest   the most steps of a query, and its most bytes
+--   wrong_length n        a query of n bytes is refused for its length
 --   Right n              n is right for a length: what is left where it is not wrong
 --   steps q              how many steps q has
 --   step_of q s           the record of the step that has s steps before it: its number is s + 1
---  axis_byte r ..        what stands in which byte of a step's record r
---  is_main r             r is on the main path
---  axis_named b          the case that the axis byte b names
---  axis_rule b           the axis byte b names an axis
---  is_role b             the role byte b is one of the two
---  role_rule k b         step k may have the role byte b
+--   axis_byte r ..        what stands in which byte of a step's record r
+--   is_main r             r is on the main path
+--   axis_named b          the case that the axis byte b names
+--   axis_rule b           the axis byte b names an axis
+--   is_role b             the role byte b is one of the two
+--   role_rule k b         step k may have the role byte b
 --   nearest q s          the nearest main-path step among the first s steps, 0 where there is none
---  hang_rule q s         the step that has s steps before it hangs where it may; later_rule: the same where it is not step 1
---  zero_rule r           the bytes that have to be 0 are
+--   hang_rule q s         the step that has s steps before it hangs where it may; later_rule: the same where it is not step 1
+--   zero_rule r           the bytes that have to be 0 are
 --   keeps q s            the step that has s steps before it keeps every rule
 --
 -- Assumes nothing. NOT here: which reason a step at fault gets (Reasons) and which answer a query (Answer), what it means (Decode), laws (Rules.Laws).
-pub mod Laws
-pub mod Nearest
 use Rattle.std.specs.Prelude.{ℕ, zero, suc, ◌+◌, ◌*◌, ◌/◌, ◌%◌, ◌≤◌, ◌<◌, ◌≡◌, Bool, true, false, not, ◌&&◌, ◌||◌, List, eqb, leb, ltb, length, get_or, take, drop}
 use Rattle.meaning.specs.Query.{nearer}
 use Rattle.query.specs.declared.AxisByte.{AxisByte}

@@ -10,7 +10,7 @@ use Rattle.std.specs.Prelude.{ℕ, ◌+◌, ◌*◌, ◌/◌, ◌%◌, ◌≡◌
 use Rattle.std.proofs.Common.{arith, sym, ap, ◌∙◌}
 use Rattle.meaning.specs.Refusals.{bad_step}
 use Rattle.query.specs.Answer.{Answer, admitted, refused, refused_at, answer_to}
-use Rattle.query.specs.Answer.Laws.{step_within}
+use Rattle.query.proofs.Answer.Laws.{step_within}
 
 unfoldable pub packed : Answer → ℕ
 packed admitted = 0

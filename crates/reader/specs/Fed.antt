@@ -1,10 +1,10 @@
 -- What a feed does, turn by turn.
 --
---  fresh_reader                     a reader at the start of a text
---  more_to_read r at end w out       another byte is read: nothing was refused, a byte is there, and the output has room for what one can give
+--   fresh_reader                     a reader at the start of a text
+--   more_to_read r at end w out       another byte is read: nothing was refused, a byte is there, and the output has room for what one can give
 --   Going                           how far a feed has come: the reader, the place in the text, the room, the output and how many of its bytes are written
 --   advanced names x M t g          one turn more, in the list `names` with its index x
---  read_for k ...                   k turns at most;  read_on: as many as there are
+--   read_for k ...                   k turns at most;  read_on: as many as there are
 --
 -- Assumes nothing. NOT here: that this is the machine's run (crate text_right).
 pub mod Laws

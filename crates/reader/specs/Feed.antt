@@ -1,13 +1,13 @@
 -- What a feed and the end of a text come to, for all values of what is lent.
 --
 --   Came                           the reader, how many bytes were taken, the room, the output and how many of its bytes are written, and the refusal
---  too_scant room index out        less is lent than a feed needs
+--   too_scant room index out        less is lent than a feed needs
 --   untouched q r R out            refused with q: nothing was read, and nothing is changed
 --   throughout R g                 what reading on in the needed part of the room came to
---  feed_answer names x t r R out       a feed of the text t to the reader r, in the list `names` with its index x, the room R and the output out
---  around_only m                   the mode m is that between two pieces of markup around the document element
+--   feed_answer names x t r R out       a feed of the text t to the reader r, in the list `names` with its index x, the room R and the output out
+--   around_only m                   the mode m is that between two pieces of markup around the document element
 --   whole_at p m                    at the place p, in the mode m, a whole document was read
---  finish_answer r                 the end of the text: 46 for a stopped reader, 0 for a whole document, else 44 and stopped
+--   finish_answer r                 the end of the text: 46 for a stopped reader, 0 for a whole document, else 44 and stopped
 --   BeginGives r, FeedGives .. c R' out', FinishGives r f      THE PROMISES of `begin`, `feed` and `finish`: what they answer, and the room and the output on
 --                                  return, are that
 --   feed_scant, feed_stopped, feed_read      a feed by its cases;  enough: what is known where it is not scant

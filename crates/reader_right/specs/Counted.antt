@@ -12,9 +12,9 @@ use Rattle.std.proofs.Math.Path.{ap₂}
 use Rattle.std.proofs.Math.ListN.{get_or, length-set}
 use Rattle.std.proofs.Math.Seq.{get_or-set_same, get_or-set_other}
 use Rattle.slots.specs.Slots.{base_of, name_in, number_in, numbered}
-use Rattle.text_right.specs.Frames.{base_is}
-use Rattle.text_right.specs.Numbered.{numbered_name}
-use Rattle.text_right.specs.Below.{Same, number_same, name_same}
+use Rattle.text_right.proofs.Frames.{base_is}
+use Rattle.text_right.proofs.Numbered.{numbered_name}
+use Rattle.text_right.proofs.Below.{Same, number_same, name_same}
 
 pub record Counted (f : List ℕ → ℕ) (R : List ℕ) (d : ℕ) : Type 0 where
   pub each : (s : ℕ) → s < d → number_in R s ≡ f (name_in R s)

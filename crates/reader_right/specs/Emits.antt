@@ -14,7 +14,7 @@ use Rattle.std.proofs.Common.{◌∙◌, append_assoc, append-nil, ne_eqb}
 use Rattle.choice.specs.When.{when_either, when_false}
 use Rattle.records.specs.Event.{event_bytes}
 use Rattle.xml.specs.Bounds.{remark_name}
-use Rattle.xml.specs.Bounds.Laws.{unknown_is}
+use Rattle.xml.proofs.Bounds.Laws.{unknown_is}
 use Rattle.xml.specs.Grammar.{Ev}
 use Rattle.xml.specs.Numbered.{numbered}
 use Rattle.names.specs.Number.{number_of}
@@ -30,11 +30,11 @@ use Rattle.walk.specs.Walk.{innermost_of}
 use Rattle.emit.specs.Emit.{Emitted, both_in, opened_as, opened, closed, emitted_by, emitted}
 use Rattle.text_right.specs.Stands.{state_of, evs_in, evs_of}
 use Rattle.text_right.specs.Sound.{Sound}
-use Rattle.text_right.specs.Frames.{open_is}
-use Rattle.text_right.specs.Numbered.{numbered_state, numbered_sound}
-use Rattle.text_right.specs.Below.{Same}
-use Rattle.text_right.specs.Placed.{Placed}
-use Rattle.text_right.specs.Led.{sound_deep}
+use Rattle.text_right.proofs.Frames.{open_is}
+use Rattle.text_right.proofs.Numbered.{numbered_state, numbered_sound}
+use Rattle.text_right.proofs.Below.{Same}
+use Rattle.text_right.proofs.Placed.{Placed}
+use Rattle.text_right.proofs.Led.{sound_deep}
 use Rattle.reader_right.specs.Records.{records_of, records_in}
 use Rattle.reader_right.specs.Wrote.{Wrote, wrote_more}
 use Rattle.reader_right.specs.Counted.{Counted, counted_fewer, counted_same, counted_more}

@@ -1,6 +1,6 @@
 -- The end of a text: what the code asks of the reader is whether the machine stands behind a whole document.
 --
---  is_after s            the state s is the one behind a whole document;  after_is
+--   is_after s            the state s is the one behind a whole document;  after_is
 --   fits_after           for a reader and its room that calls lead to this is what the code asks
 --   finish_exactly       `finish` refuses nothing exactly if the text is a document;  finish_stops, finish_either: else it refuses with 44
 --
@@ -25,7 +25,7 @@ use Rattle.reader.specs.declared.Finished.{Finished}
 use Rattle.reader.specs.Feed.{around_only, whole_at, finish_answer}
 use Rattle.text_right.specs.Stands.{place_of, prolog_state, end_state, amper_state, bang_state, state_in, state_of}
 use Rattle.text_right.specs.Sound.{Inner, Outer, before, after, Back, FitsIn, Fits}
-use Rattle.text_right.specs.Matched.{place_before, place_after, place_inner}
+use Rattle.text_right.proofs.Matched.{place_before, place_after, place_inner}
 use Rattle.reader_right.specs.TextRead.{TextRead, used}
 
 unfoldable pub is_after : State → Bool

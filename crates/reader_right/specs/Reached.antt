@@ -24,17 +24,17 @@ use Rattle.modes.specs.declared.Gives.TheVariants as gives
 use Rattle.modes.specs.declared.Reader.{Reader}
 use Rattle.modes.specs.Moves.{open_at}
 use Rattle.walk.specs.Turn.{Turned, turned}
-use Rattle.walk.specs.Within.{turned_within, turned_on}
+use Rattle.walk.proofs.Within.{turned_within, turned_on}
 use Rattle.emit.specs.Emit.{Emitted, emitted_by, emitted}
 use Rattle.reader.specs.Fed.{Going, advanced_by, advanced, goes_on, read_for}
 use Rattle.reader.specs.Fed.Laws.{More, more_is}
 use Rattle.text_right.specs.Stands.{state_of, evs_of}
 use Rattle.text_right.specs.Sound.{Sound}
-use Rattle.text_right.specs.Quiet.{Bytes}
-use Rattle.text_right.specs.Turned.{Turns, turn_right}
-use Rattle.text_right.specs.Below.{Same}
-use Rattle.text_right.specs.Placed.{Placed}
-use Rattle.text_right.specs.Led.{turn_placed, turn_below, turn_long}
+use Rattle.text_right.proofs.Quiet.{Bytes}
+use Rattle.text_right.proofs.Turned.{Turns, turn_right}
+use Rattle.text_right.proofs.Below.{Same}
+use Rattle.text_right.proofs.Placed.{Placed}
+use Rattle.text_right.proofs.Led.{turn_placed, turn_below, turn_long}
 use Rattle.reader_right.specs.Records.{records_in, records_more}
 use Rattle.reader_right.specs.Wrote.{Wrote, wrote_long}
 use Rattle.reader_right.specs.Counted.{Counted}

@@ -1,7 +1,7 @@
 -- The records of events, one after the other.
 --
---  record_of e           the record of an event;  records_of es: of some
---  records_in f es       the records of the events of a text, with numbers for names by f
+--   record_of e           the record of an event;  records_of es: of some
+--   records_in f es       the records of the events of a text, with numbers for names by f
 --   records_more         those of some events and more;  same_records: by the same numbers the same
 --
 -- Assumes nothing. NOT here: what is read of a record (crate meaning, Record).

@@ -34,9 +34,9 @@ use Rattle.reader.specs.Feed.{Came, too_scant, untouched, throughout, feed_answe
 use Rattle.text_right.specs.Marked.{table_is}
 use Rattle.text_right.specs.Stands.{state_of}
 use Rattle.text_right.specs.Sound.{Sound}
-use Rattle.text_right.specs.Frames.{open_is}
-use Rattle.text_right.specs.Quiet.{Bytes}
-use Rattle.text_right.specs.Turned.{begin_sound, begin_state}
+use Rattle.text_right.proofs.Frames.{open_is}
+use Rattle.text_right.proofs.Quiet.{Bytes}
+use Rattle.text_right.proofs.Turned.{begin_sound, begin_state}
 use Rattle.reader_right.specs.Records.{records_of, records_in}
 use Rattle.reader_right.specs.Wrote.{Wrote, wrote_none, wrote_long}
 use Rattle.reader_right.specs.Counted.{Counted, counted_none}

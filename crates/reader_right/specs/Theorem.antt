@@ -5,7 +5,7 @@
 --                        part is as the call before left it
 --   Events N X t bs      bs are the records of the events of t: a stream that a session takes up to its own limits
 --   Feeds .. c out'      one more feed, of the block u, which is lent enough: c is what it answers, and out' the output on return
---  stopped_at t u c      the text up to the byte that a feed of u stopped before
+--   stopped_at t u c      the text up to the byte that a feed of u stopped before
 --   Promised N X         the theorem; it is proved in Theorem.Proof
 --
 -- N and X are the list of names and its index: any bytes, and any words. Document, Begins, Spent, RefusedAt and Refusal are docs/XML.md's words (crate xml:
@@ -32,7 +32,7 @@ use Rattle.slots.specs.Slots.{room_needed}
 use Rattle.reader.specs.declared.Fed as answered
 use Rattle.reader.specs.declared.Finished.{Finished}
 use Rattle.reader.specs.Feed.{too_scant, BeginGives, FeedGives, FinishGives}
-use Rattle.text_right.specs.Quiet.{Bytes}
+use Rattle.text_right.proofs.Quiet.{Bytes}
 use Rattle.reader_right.specs.Records.{records_in}
 use Rattle.reader_right.specs.TextRead.{used}
 

@@ -5,7 +5,7 @@
 --   Due t es rs r fs k          after t one of rs must come: then fs are given and k is next, and else r is given
 --   Begun t es w rs r fs k      the same for either, with w behind t, and in w the first byte of what Reads
 --   After t es s                the account of the state s: t has been read, and es are its events
---  part_first k, part_rest k     the name of a part of the declaration, taken apart
+--   part_first k, part_rest k     the name of a part of the declaration, taken apart
 --   plus es fs                  es ++ fs, and es itself where fs is none
 --
 -- Assumes nothing. NOT here: that each byte takes an account to an account (Account.Steps), that each account is reached (Leads.Accounts).

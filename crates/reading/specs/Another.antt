@@ -1,7 +1,7 @@
 -- A name can be made longer by one byte into a name that none of some names is: among as many bytes as there are names, and one more, one is free.
 --
 --   count p n          how many numbers below n pass p
---  same_name_lem          names that are the same by the test are equal
+--   same_name_lem          names that are the same by the test are equal
 --   small_letter       the letters from 'a' to 'z' go on in a name
 --   another            of n small letters from 'a' on, one makes m a name that none of ms is, where ms has fewer than n
 --
@@ -10,7 +10,7 @@ use Rattle.std.specs.Prelude.{ℕ, zero, suc, ◌+◌, ◌≤◌, ◌<◌, ◌�
 use Rattle.std.proofs.Common.{arith, sym, ap, ap₂, ◌∙◌, subst, eqb→eq}
 use mir.Val.{bool_byte}
 use Rattle.xml.specs.Class.{In}
-use Rattle.xml.specs.Class.Laws.{and_l, and_r}
+use Rattle.xml.proofs.Class.Laws.{and_l, and_r}
 use Rattle.xml.specs.Chars.{name_char}
 use Rattle.xml.specs.Grammar.{same_name, among}
 use Rattle.reading.specs.Last.{last, last_snoc}

@@ -13,7 +13,7 @@ use Rattle.std.proofs.Math.Dec.{T, T_not}
 use Rattle.choice.specs.When.{when_either}
 use Rattle.xml.specs.Class.{in_class}
 use Rattle.xml.specs.Limited.{bounds}
-use Rattle.xml.specs.Limited.Laws.{name_taken, atts_taken, nest_taken}
+use Rattle.xml.proofs.Limited.Laws.{name_taken, atts_taken, nest_taken}
 use Rattle.xml.specs.Grammar.{Limits, Ev, b0, among, Each, name, Document}
 use Rattle.xml.specs.Machine.{Place, State, Outcome, refused, goes, check, step, pick, run, stands}
 use Rattle.xml.specs.Unfinished.{InAtt, attribute}

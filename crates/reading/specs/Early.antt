@@ -17,7 +17,7 @@ use mathlib.Core.List.{List, [], ◌∷◌, ◌++◌}
 use Rattle.std.proofs.Math.Dec.{not_T}
 use Rattle.choice.specs.When.{when}
 use Rattle.xml.specs.Class.{Rows, in_class, this, words, waiting, all_apart}
-use Rattle.xml.specs.Class.Laws.{some_spelling, waiting_sound, waiting_filled, and_l, and_r, word_spells}
+use Rattle.xml.proofs.Class.Laws.{some_spelling, waiting_sound, waiting_filled, and_l, and_r, word_spells}
 use Rattle.xml.specs.Chars.{name_char, quote}
 use Rattle.xml.specs.Grammar
 use Rattle.xml.specs.Grammar.{Limits, Ev, Br, b0, among, same_name, Part, version, part_values, may_follow, Each, eq, Value, quoted, Name, name}

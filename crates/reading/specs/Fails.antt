@@ -10,7 +10,7 @@ use Rattle.std.specs.Prelude.{ℕ, ◌<◌, ◌≡◌, refl, Bool, true, false, 
 use Rattle.std.proofs.Common.{arith, sym, ap, ◌∙◌, subst}
 use mathlib.Core.List.{List, [], ◌∷◌, ◌++◌, cons≢nil, tail}
 use Rattle.xml.specs.Class.{Rows, in_class, In, OneOf, this, that, Spells, end, place, derive, sound, waiting}
-use Rattle.xml.specs.Class.Laws.{derive_back, derive_on, derive_sound, some_spelling, waiting_filled}
+use Rattle.xml.proofs.Class.Laws.{derive_back, derive_on, derive_sound, some_spelling, waiting_filled}
 use Rattle.xml.specs.Chars.{utf8, no_dash, plain, unquoted, quote}
 use Rattle.xml.specs.Sentences.{Fails}
 use Rattle.xml.specs.Table.{ascii, character}

@@ -14,10 +14,10 @@ use Rattle.meaning.specs.Name.{is_name}
 use Rattle.meaning.specs.Document.{Doc, blank}
 use Rattle.meaning.specs.Stream as stream
 use Rattle.meaning.specs.Stream.{fits, act, always, Stream}
-use Rattle.meaning.specs.Stream.Laws.{Leads, leads_none, leads_append}
-use Rattle.meaning.specs.Record.Laws.{name_exactly}
+use Rattle.meaning.proofs.Stream.Laws.{Leads, leads_none, leads_append}
+use Rattle.meaning.proofs.Record.Laws.{name_exactly}
 use Rattle.xml.specs.Bounds.{remark_name}
-use Rattle.xml.specs.Bounds.Laws.{unknown_is, remark_is}
+use Rattle.xml.proofs.Bounds.Laws.{unknown_is, remark_is}
 use Rattle.xml.specs.Grammar.{Limits, Ev, opens, closes, remark, Symbol, element', content', Derives, element, empty, data', child, refer, Document}
 use Rattle.xml.specs.Grammar.{document as document'}
 use Rattle.xml.specs.Machine.{Place, State}

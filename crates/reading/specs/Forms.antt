@@ -10,7 +10,7 @@ use Rattle.std.proofs.Common.{arith, sym, ap, ap₂, ◌∙◌, subst, leb→le,
 use Rattle.std.proofs.Math.Decide.{dec_lt}
 use Rattle.choice.specs.When.{when_true, when_false}
 use Rattle.xml.specs.Class.{Range, to, only, In, OneOf, this, that, end, place}
-use Rattle.xml.specs.Class.Laws.{T_true, T_false}
+use Rattle.xml.proofs.Class.Laws.{T_true, T_false}
 use Rattle.xml.specs.Chars.{utf8}
 use Rattle.xml.specs.Grammar.{Char, narrow, wide}
 use Rattle.xml.specs.Table.{ascii}

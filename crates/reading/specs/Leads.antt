@@ -20,7 +20,7 @@ use mathlib.Core.List.{List, [], ◌∷◌, ◌++◌, append_assoc, append-nil}
 use Rattle.choice.specs.When.{when_true, when_false}
 use Rattle.xml.specs.Class.{Class, Row, Rows, in_range, in_class, In, OneOf, this, that, derive, word, words, place, disjoint, disjoint_ranges, out_of}
 use Rattle.xml.specs.Class.{apart, apart_from, all_apart, filled, some_row, sound, waiting}
-use Rattle.xml.specs.Class.Laws.{derive_on, derive_apart, derive_sound, word_spells, not_in, and_l, and_r, T_true, T_false, or_r}
+use Rattle.xml.proofs.Class.Laws.{derive_on, derive_apart, derive_sound, word_spells, not_in, and_l, and_r, T_true, T_false, or_r}
 use Rattle.xml.specs.Chars.{utf8}
 use Rattle.xml.specs.Refused.{not_char, other_entity}
 use Rattle.xml.specs.Grammar.{Limits, Ev, entities, Each, Char, narrow, wide, Reference, reference}

@@ -11,7 +11,7 @@
 use Rattle.std.specs.Prelude.{ℕ, ◌≡◌, refl, false, ◌&&◌, T}
 use mathlib.Core.List.{List, [], ◌∷◌, ◌++◌, cons≢nil}
 use Rattle.xml.specs.Class.{Rows, OneOf, this, that, Spells, derive, apart, apart_from, all_apart, all_spelled, filled, some_row, sound, waiting}
-use Rattle.xml.specs.Class.Laws.{and_l, derive_back, derive_on, derive_sound, some_spelling, sound_waiting}
+use Rattle.xml.proofs.Class.Laws.{and_l, derive_back, derive_on, derive_sound, some_spelling, sound_waiting}
 
 unfoldable pub left : List ℕ → Rows → Rows
 left [] rs = rs

@@ -14,8 +14,8 @@ use Rattle.std.proofs.Math.Dec.{eqb_refl}
 use Rattle.meaning.specs.Name.{is_name}
 use Rattle.meaning.specs.Document.{Node, Row, nil, Doc, done, within, blank, opened, closed, finished, ends_at}
 use Rattle.meaning.specs.Stream.{opens, closes, fits, act}
-use Rattle.meaning.specs.Stream.Laws.{Leads, leads_one}
-use Rattle.xml.specs.Class.Laws.{and_i}
+use Rattle.meaning.proofs.Stream.Laws.{Leads, leads_one}
+use Rattle.xml.proofs.Class.Laws.{and_i}
 use Rattle.reading.specs.Last.{snoc_some}
 
 unfoldable pub spine : Doc → List ℕ

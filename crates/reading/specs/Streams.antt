@@ -15,14 +15,16 @@ use Rattle.std.proofs.Math.Dec.{T}
 use Rattle.meaning.specs.Name.{is_name}
 use Rattle.meaning.specs.Query.{Query}
 use Rattle.meaning.specs.Document.{Doc, done, within, blank, finished, ends_at}
-use Rattle.meaning.specs.Document.Laws.{finished_exactly, ends_exactly}
+use Rattle.meaning.proofs.Document.Laws.{finished_exactly, ends_exactly}
 use Rattle.meaning.specs.Stream as stream
 use Rattle.meaning.specs.Stream.{Event, fits, act, document, always, Stream}
-use Rattle.meaning.specs.Record.Laws.{Number, Records, open_record, close_record, name_exactly, event_exactly}
+use Rattle.meaning.specs.Record.Laws.{Number, Records, open_record, close_record}
+use Rattle.meaning.proofs.Record.Laws.{name_exactly, event_exactly}
 use Rattle.meaning.specs.Answer.{Lent, event, finish, refused, going, answer}
-use Rattle.meaning.specs.Answer.Exactly.{Due, refused_exactly}
+use Rattle.meaning.specs.Answer.Exactly.{Due}
+use Rattle.meaning.proofs.Answer.Exactly.{refused_exactly}
 use Rattle.xml.specs.Bounds.{remark_name}
-use Rattle.xml.specs.Class.Laws.{and_l, and_r, and_i}
+use Rattle.xml.proofs.Class.Laws.{and_l, and_r, and_i}
 use Rattle.xml.specs.Grammar.{Limits, Ev, opens, closes, remark, Document}
 use Rattle.xml.specs.Machine.{State, Result, stopped, stands, run}
 use Rattle.xml.specs.Numbered.{Numbering, numbered, events}

@@ -3,14 +3,14 @@
 --   Within c b               b is in one of the ranges of c
 --   within_in, in_within     the same as being in c
 --   part_of d c               each range of d is in one of c;  part_within: so each byte is
---  all_below n p             every number below n passes p, as a test;  all_below_lem: so each does
+--   all_below n p             every number below n passes p, as a test;  all_below_lem: so each does
 --
 -- Assumes nothing.
 use Rattle.std.specs.Prelude.{ℕ, zero, suc, ◌≤◌, ◌<◌, ◌≡◌, Bool, true, false, ◌&&◌, ◌||◌, [], ◌∷◌, T, leb}
 use Rattle.std.proofs.Common.{arith, sym, subst, ⊎_elim, leb→le, le→leb}
 use Rattle.std.proofs.Math.Decide.{ℕ_discrete}
 use Rattle.xml.specs.Class.{Range, Class, in_range, in_class, In}
-use Rattle.xml.specs.Class.Laws.{and_l, and_r, and_i, or_case, or_l, or_r}
+use Rattle.xml.proofs.Class.Laws.{and_l, and_r, and_i, or_case, or_l, or_r}
 
 pub data Within : Class → ℕ → Type 0 where
   here : {r : Range} {c : Class} {b : ℕ} → r.lo ≤ b → b ≤ r.hi → Within (r ∷ c) b

@@ -9,7 +9,7 @@ use Rattle.std.specs.Prelude.{ℕ, ◌≡◌, refl, ◌⊎◌, ◌↔◌, Bool, 
 use Rattle.std.proofs.Common.{arith, sym, ap, ◌∙◌, subst, ⊎_elim, eqb→eq, T_not}
 use mathlib.Core.List.{List, [], ◌∷◌, ◌++◌, append_assoc, append-nil, cons≢nil}
 use Rattle.xml.specs.Class.{Class, Row, Rows, in_class, In, OneOf, this, that, Spells, end, place, filled}
-use Rattle.xml.specs.Class.Laws.{and_l, and_r, or_case}
+use Rattle.xml.proofs.Class.Laws.{and_l, and_r, or_case}
 use Rattle.xml.specs.Chars.{beyond, utf8, no_dash, plain}
 use Rattle.xml.specs.Grammar.{Char, narrow, wide, Br, b0, b1, b2, Run, Remarked, Comment, comment}
 use Rattle.xml.specs.Table.{ascii}

@@ -2,7 +2,7 @@
 --
 --   unread s input             what is read and not taken yet
 --   UnreadWithin s n           what is unread lies in the first n bytes of the input
---  leftover_of left            the refusal of so many leftover bytes, or 0
+--   leftover_of left            the refusal of so many leftover bytes, or 0
 --   ReadMore file s i s' i'    a read: what it gave stands behind what was left over; where it gave nothing, the leftover bytes are a bad record
 --
 -- Assumes nothing. NOT here: what a block of events makes of it (crate block, Worked), what both come to together (crate turns, Turns).

@@ -1,7 +1,7 @@
 -- The bytes of an event record, as they are written.
 --
 --   quad a b c d           four bytes
---  event_bytes kind name   the record of an event: kind 1 opens an element, 2 closes one
+--   event_bytes kind name   the record of an event: kind 1 opens an element, 2 closes one
 --
 -- Assumes nothing. NOT here: that they are read as that event (Event.Laws).
 pub mod Laws

@@ -1,6 +1,6 @@
 -- THE CLOSE: what it does to the rooms it does to the engine's state of them, for any numbers, records and buffer where some element is open.
 --
---  drop_last_lem            a list without its last member
+--   drop_last_lem            a list without its last member
 --   ltb_add              a test between sums
 --   closing_is           what the close comes to in the engine, by what is read of all records
 --   moved_is, went_is    the nodes that still wait, and how many of them go
@@ -19,11 +19,11 @@ use Rattle.std.proofs.lemmas.List.{length-map}
 use Rattle.std.proofs.Math.Seq.{take_at, drop_at}
 use Rattle.choice.specs.Count.{down, bool_byte_read}
 use Rattle.meaning.specs.Limits.{held_limit, node_limit}
-use Rattle.meaning.specs.Limits.Laws.{held_is, node_limit_is}
+use Rattle.meaning.proofs.Limits.Laws.{held_is, node_limit_is}
 use Rattle.plan.specs.Plan.{Plan}
 use Rattle.engine.specs.Quick.{Frame, Waiting, State, met_at, possible_at, went_if, Cut, cut, stay, closing_from, closing_at, closing, closes, quick_close}
-use Rattle.engine.specs.Quick.Lists.{cut_append}
-use Rattle.engine.specs.Quick.Snoc.{went_le, stay_le}
+use Rattle.engine.proofs.Quick.Lists.{cut_append}
+use Rattle.engine.proofs.Quick.Snoc.{went_le, stay_le}
 use Rattle.records.specs.Write.{buffer}
 use Rattle.element.specs.Element.{Elements, no_frame, frame_at}
 use Rattle.elements.specs.Elements.Laws.{possible_front}

@@ -18,10 +18,10 @@ use borrow.Author.Tests.{eqb-true, leb-false}
 use Rattle.choice.specs.When.{when, never}
 use Rattle.choice.specs.Count.{bool_byte_le}
 use Rattle.meaning.specs.Limits.{held_limit, node_limit}
-use Rattle.meaning.specs.Limits.Laws.{held_is, node_limit_is}
+use Rattle.meaning.proofs.Limits.Laws.{held_is, node_limit_is}
 use Rattle.plan.specs.Plan.{Plan}
 use Rattle.engine.specs.Quick.{Waiting, State, Opening, opening, opening_from, judged, over, newcomer, queue_after, out_after, opens, quick_open}
-use Rattle.engine.specs.Quick.Snoc.{frames_after_length, went_le}
+use Rattle.engine.proofs.Quick.Snoc.{frames_after_length, went_le}
 use Rattle.records.specs.Write.{buffer}
 use Rattle.element.specs.Element.{Elements}
 use Rattle.node.specs.Node.{Queue}

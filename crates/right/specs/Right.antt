@@ -37,8 +37,8 @@ use Rattle.meaning.specs.Limits.{depth_limit, held_limit, node_limit, output_nee
 use Rattle.plan.specs.Plan.{Plan, plan}
 use Rattle.engine.specs.Quick.{State, Result, begun, opening, over, name_at, quick_open, quick_close}
 use Rattle.engine.specs.Quick.Of.{quick_state}
-use Rattle.engine.specs.Quick.Reads.{quick_begun, quick_held, quick_waiting, quick_depth, quick_ends}
-use Rattle.engine.specs.Quick.Theorem.{quick_open_lem, quick_open_out, quick_over, quick_close_lem, quick_close_out}
+use Rattle.engine.proofs.Quick.Reads.{quick_begun, quick_held, quick_waiting, quick_depth, quick_ends}
+use Rattle.engine.proofs.Quick.Theorem.{quick_open_lem, quick_open_out, quick_over, quick_close_lem, quick_close_out}
 use Rattle.records.specs.Read.{shown}
 use Rattle.records.specs.Write.{buffer}
 use Rattle.element.specs.Element.{Elements, no_frame, frame_at}

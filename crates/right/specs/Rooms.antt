@@ -13,7 +13,7 @@ use Rattle.std.proofs.Common.{sym, ◌∙◌, length-take, take-take, get_or-tak
 use Rattle.std.proofs.Math.ListN.{length, take}
 use Rattle.std.proofs.Math.Seq.{take_at, length-take-le}
 use Rattle.meaning.specs.Limits.{depth_limit, node_limit, element_record, waiting_record, elements_needed, nodes_needed}
-use Rattle.meaning.specs.Limits.Laws.{depth_is, held_is, element_record_is, waiting_record_is, elements_is, nodes_is}
+use Rattle.meaning.proofs.Limits.Laws.{depth_is, held_is, element_record_is, waiting_record_is, elements_is, nodes_is}
 use Rattle.meaning.specs.Query.{Query}
 use Rattle.meaning.specs.Document.{Doc, count, depth}
 use Rattle.plan.specs.Every.{Every}

@@ -15,28 +15,28 @@ use Rattle.std.proofs.Math.ListN.{length-append}
 use Rattle.meaning.specs.Logic.{and_l, and_r}
 use Rattle.meaning.specs.Name.{last_name, is_name}
 use Rattle.meaning.specs.Limits.{depth_limit, node_limit}
-use Rattle.meaning.specs.Limits.Laws.{depth_is, node_limit_is}
+use Rattle.meaning.proofs.Limits.Laws.{depth_is, node_limit_is}
 use Rattle.meaning.specs.Query.{Query, Steps}
 use Rattle.meaning.specs.Document.{Node, Row, Doc, done, within, blank, opened, closed, count, depth}
 use Rattle.meaning.specs.Selection.{Ready, start}
 use Rattle.meaning.specs.Stream.{Event, opens, closes, fits, act, run, document, always, Stream}
 use Rattle.sets.specs.Set.{without}
-use Rattle.sets.specs.Set.Of.{mask_of_under}
+use Rattle.sets.proofs.Set.Of.{mask_of_under}
 use Rattle.plan.specs.Every.{Every, e_nil, e_cons, every_map, every_both, every_mapped}
 use Rattle.plan.specs.Order.{back_path, predicates, order, mask}
-use Rattle.plan.specs.Places.Laws.{order_length}
+use Rattle.plan.proofs.Places.Laws.{order_length}
 use Rattle.plan.specs.Plan.{plan, named}
-use Rattle.plan.specs.Plan.Laws.{plan_size, named_under, meets_under}
-use Rattle.engine.specs.Every.{every_keep, every_past}
+use Rattle.plan.proofs.Plan.Laws.{plan_size, named_under, meets_under}
+use Rattle.engine.proofs.Every.{every_keep, every_past}
 use Rattle.engine.specs.Need.{Need, itself, one_of}
 use Rattle.engine.specs.Engine as Engine
-use Rattle.engine.specs.Hom.{frame_in, waiting_in}
+use Rattle.engine.proofs.Hom.{frame_in, waiting_in}
 use Rattle.engine.specs.MaskOps.{masks, need_mask, mask_state}
 use Rattle.engine.specs.StateOf.{frames_of, places, number, frames_at, nodes, state_of}
-use Rattle.engine.specs.StateOf.Places.{length_places}
+use Rattle.engine.proofs.StateOf.Places.{length_places}
 use Rattle.engine.specs.Quick.{Frame, Waiting}
 use Rattle.engine.specs.Quick.Of.{frame_shown, need_shown, waiting_shown, quick_state}
-use Rattle.engine.specs.Quick.Reads.{quick_levels}
+use Rattle.engine.proofs.Quick.Reads.{quick_levels}
 use Rattle.element.specs.Element as element
 use Rattle.node.specs.Node as node
 

@@ -1,6 +1,6 @@
 -- Lent rooms as a state of the engine: the records in use, and the session's numbers.
 --
---  state_in n E N        the engine's state (crate engine, Quick) of the numbers n and the records E and N
+--   state_in n E N        the engine's state (crate engine, Quick) of the numbers n and the records E and N
 --   same_state           states with equal fields are equal
 --   Roomy E N            there are as many records as there may be elements open and nodes waiting
 --   Takes r a out        what an event comes to in the rooms (a) is what it comes to in the engine (r): the state, how many nodes are handed out, their

@@ -3,8 +3,8 @@
 --   fresh plan        the session for a plan, at the start of its stream
 --   said a            the answer that a case of `Start` stands for, in document 01's numbers: 15 where the room is too small, else the query's
 --   Begun             what begin answers, in document 01's numbers, and the session beside it
---  start_answer q E N    the answer to the bytes q with the room E and N lent
---  session_for a q    the session beside the answer a to the query q; the blank one beside every refusal
+--   start_answer q E N    the answer to the bytes q with the room E and N lent
+--   session_for a q    the session beside the answer a to the query q; the blank one beside every refusal
 --   begun q E N       the answer and the session
 --   BeginGives q E N r     THE PROMISE of `begin`: r's answer, in document 01's numbers, and its session are those
 --

@@ -2,12 +2,12 @@
 --
 --   Done                     an event's answer, the next session, and all that was lent, byte for byte
 --   refused n s E N out      a refusal beside the session s and all that was lent
---  session_numbers s, with_numbers s n       the session's numbers; the same session with the numbers n
---  stopped_by r s            the session s after the refusal r: "The refused call changes nothing but this"
---  answer_by r k             the answer of an event that was refused with r, or, where that is 0, handed out k nodes
+--   session_numbers s, with_numbers s n       the session's numbers; the same session with the numbers n
+--   stopped_by r s            the session s after the refusal r: "The refused call changes nothing but this"
+--   answer_by r k             the answer of an event that was refused with r, or, where that is 0, handed out k nodes
 --   settled s c              an event on the session's numbers and the room that came to c, as one on the session
 --   event s bytes E N out    an event, by its bytes, on any room (crate offer)
---  told_as, told_of           the same with the answer in document 01's number and values (Told)
+--   told_as, told_of           the same with the answer in document 01's number and values (Told)
 --   EventGives s bytes E N out r E' N' out'      THE PROMISE of `event`: its result r, and all that was lent on return, are those
 --   finish s                 the nodes opened and handed out, or refusal 11 or 8
 --   FinishGives s r          THE PROMISE of `finish`: its result r stands for that

@@ -1,10 +1,10 @@
 -- What a block of events answers: the same as single events one after the other.
 --
 --   Housed, housed s E N         what an event is taken at: the session and the lent room
---  refusal_of a, listed_of a   an answer's refusal number, or 0, and how many nodes it hands out
---  event_at l bytes out      one event (Event), as what one event comes to
+--   refusal_of a, listed_of a   an answer's refusal number, or 0, and how many nodes it hands out
+--   event_at l bytes out      one event (Event), as what one event comes to
 --   ran r E N out            a result of `run` and all that was lent, as what a block comes to
---  run_within s es E N out   a block on the room that is needed, by steps (crate feed)
+--   run_within s es E N out   a block on the room that is needed, by steps (crate feed)
 --   RunGives s es E N out r E' N' out'      THE PROMISE of `run`: its result r, and all that was lent on return, are what single events come to
 --
 -- Assumes nothing. NOT here: that steps on the room that is needed are single events (Run.Laws).

@@ -10,7 +10,7 @@ use Rattle.std.specs.Prelude.{ℕ, ◌≡◌, List, length}
 use Rattle.std.proofs.Common.{arith, sym, ap, ◌∙◌}
 use Rattle.meaning.specs.Answer as meaning
 use Rattle.records.specs.Write.{nodes_in}
-use Rattle.records.specs.Write.Laws.{length_nodes}
+use Rattle.records.proofs.Write.Laws.{length_nodes}
 use Rattle.session.specs.declared.Answer.{Answer}
 use Rattle.session.specs.declared.Answer.TheVariants.{Refused, Taken}
 use Rattle.session.specs.declared.Finish as finishing

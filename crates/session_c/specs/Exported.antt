@@ -1,11 +1,11 @@
 -- What the calls for C and Rust answer, and all that was lent to them afterwards, for every value of it.
 --
---  no_session               the answer to a session of another length, and to counts of another length: nothing changes then
---  began q E N S           begin with the query q (crate session, Begin);  started_by a t S: the session's bytes after the answer a
+--   no_session               the answer to a session of another length, and to counts of another length: nothing changes then
+--   began q E N S           begin with the query q (crate session, Begin);  started_by a t S: the session's bytes after the answer a
 --   took S bytes E N out    an event on the session in the bytes S (crate session, Event);  number_of a: its answer as a number;
 --                          laid_by a t S: the session's bytes after the answer a
---  blocked S es E N out C  a block of events (crate session, Run);  moved_by n r t S: the session's bytes after n events and the refusal r
---  finished S C            finish (crate session, Event);  end_number f: its answer as a number;  counted_by f C: the counts after it
+--   blocked S es E N out C  a block of events (crate session, Run);  moved_by n r t S: the session's bytes after n events and the refusal r
+--   finished S C            finish (crate session, Event);  end_number f: its answer as a number;  counted_by f C: the counts after it
 --   ExportBegins, ExportTakes, ExportRuns, ExportFinishes      THE PROMISES of `compassflare_begin`, `compassflare_event`, `compassflare_run` and
 --                           `compassflare_finish`: the result r, and all that was lent on return, are those
 --

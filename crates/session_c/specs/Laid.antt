@@ -1,11 +1,11 @@
 -- A session in lent bytes, and two counts.
 --
---  session_room          how many bytes a session takes
---  session_of kept n     the session that keeps `kept` of its query and has the numbers n
---  session_in S          the session in the bytes S: what is kept of the query, then the numbers. Any bytes stand for one
---  session_bytes s       the bytes of the session s
---  marked_bytes r S      the bytes S of a session after the refusal r: its last number is 1 if r stops, and nothing else changes
---  counts_room, count_bytes a b     how many bytes two counts take, and these bytes: 8 for each, low byte first
+--   session_room          how many bytes a session takes
+--   session_of kept n     the session that keeps `kept` of its query and has the numbers n
+--   session_in S          the session in the bytes S: what is kept of the query, then the numbers. Any bytes stand for one
+--   session_bytes s       the bytes of the session s
+--   marked_bytes r S      the bytes S of a session after the refusal r: its last number is 1 if r stops, and nothing else changes
+--   counts_room, count_bytes a b     how many bytes two counts take, and these bytes: 8 for each, low byte first
 --
 -- Assumes nothing. NOT here: what is kept of a query (crate plan_bytes, Kept), the numbers in bytes (crate numbers, Numbers).
 pub mod Laws

@@ -2,11 +2,10 @@
 --
 --   Copied, copied M R s n at t       more of a name, of which n bytes stand in slot s, from the text t that begins at `at`: how far, and the room then
 --   Agreed, agreed R s n at t         how far t goes on as the name in slot s does, of which n bytes were read
---  is_name R s at n                   the name in slot s has n bytes, those from `at` on
---  doubled_in R count n               one of the first `count` attributes has the name of n bytes that stands in the slot after them
+--   is_name R s at n                   the name in slot s has n bytes, those from `at` on
+--   doubled_in R count n               one of the first `count` attributes has the name of n bytes that stands in the slot after them
 --
 -- Assumes nothing.
-pub mod Laws
 use Rattle.std.specs.Prelude.{ℕ, zero, suc, ◌+◌, Bool, true, false, List, [], ◌∷◌, eqb, leb, get_or, set}
 use Rattle.choice.specs.When.{when}
 use Rattle.chars.specs.Marks.{marked}

@@ -1,10 +1,10 @@
 -- The reader's lent room, in slots: one for each element that may be open, the outermost first, then one for each attribute of a tag.
 --
---  room_needed               the bytes of all slots;  attribute_slot: the first of an attribute
---  name_bytes                how many bytes a name has in a slot at most: the limit of a name. Its length stands after them
+--   room_needed               the bytes of all slots;  attribute_slot: the first of an attribute
+--   name_bytes                how many bytes a name has in a slot at most: the limit of a name. Its length stands after them
 --   base_of s                 where slot s begins; one that is not there counts as the first
---  length_in R s             the length of the name in slot s; one past the limit, which no calls lead to, counts as the limit
---  name_in R s               the name
+--   length_in R s             the length of the name in slot s; one past the limit, which no calls lead to, counts as the limit
+--   name_in R s               the name
 --   number_in R s, numbered R s x      its number; the room with the number x there
 --
 -- Assumes nothing.

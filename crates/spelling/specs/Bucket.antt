@@ -1,10 +1,10 @@
 -- The bucket of a spelling: its bytes four at a time, each mixed into those before it. Any function of the bytes would do; this one spreads names well.
 --
---  four_at w i          the number of the four bytes of w from i on, 0 for each that w has not
---  mixed h x           x mixed into h;  mix_limit: what is mixed is below it
---  mixed_from w n i h   n times four bytes of w, from i on, mixed into h
+--   four_at w i          the number of the four bytes of w from i on, 0 for each that w has not
+--   mixed h x           x mixed into h;  mix_limit: what is mixed is below it
+--   mixed_from w n i h   n times four bytes of w, from i on, mixed into h
 --   settled h           the bucket that is made of what is mixed
---  bucket_of w          the bucket: its fours from the front as long as more than four bytes are left, then its last four
+--   bucket_of w          the bucket: its fours from the front as long as more than four bytes are left, then its last four
 --   buckets             how many buckets there are
 --
 -- Assumes nothing. NOT here: one turn of the loop (Bucket.Laws).

@@ -2,15 +2,13 @@
 -- the records in use, the others as they were.
 --
 --   After, after              what an event comes to: its refusal, or 0, how many nodes were handed out, and all that was lent
---  refused_with r n E N out   a refusal: all as it was
---  moved_out P depth held E N      the nodes that wait at the innermost of `depth` elements move up out of it or leave
---  open_taken, close_taken     an open and a close that nothing refuses;  on_open, on_close: any open and close of x
+--   refused_with r n E N out   a refusal: all as it was
+--   moved_out P depth held E N      the nodes that wait at the innermost of `depth` elements move up out of it or leave
+--   open_taken, close_taken     an open and a close that nothing refuses;  on_open, on_close: any open and close of x
 --   step P e n E N out        the event e
 --
 -- Assumes nothing. NOT here: the refusals by the numbers, and the numbers afterwards (crate tally); an open before anything is handed out (crate opening); that
 -- this is the engine's event on the state that the rooms hold (crate right).
-pub mod Laws
-pub mod Left
 use Rattle.std.specs.Prelude.{ℕ, ◌+◌, ◌-◌, List, eqb, ltb, length, take}
 use mir.Val.{bool_byte}
 use Rattle.choice.specs.When.{when}

@@ -1,6 +1,6 @@
 -- The stop, on the session's numbers and on one event, for all values of what is lent.
 --
---  marked_by r n              the numbers n after the refusal r, or after none (0): stopped, if r stops
+--   marked_by r n              the numbers n after the refusal r, or after none (0): stopped, if r stops
 --   marked a                  what an event came to, with the stop that its refusal is
 --   guarded P e n E N out     the event e: 11 where the session is stopped, else a step (crate step), and the stop that its refusal is
 --

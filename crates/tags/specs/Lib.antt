@@ -1,3 +1,2 @@
 pub mod Markup
 pub mod Tag
-pub mod Found

@@ -1,8 +1,8 @@
 -- One byte of a tag, and what stands in the room after it.
 --
 --   Ticked                               the reader and its room
---  begun, slashed_tick                   the first byte of an element's name; the '/' of an end tag
---  markup_tick M r b R, first_tick        after '<'; at the very start of the text
+--   begun, slashed_tick                   the first byte of an element's name; the '/' of an end tag
+--   markup_tick M r b R, first_tick        after '<'; at the very start of the text
 --
 -- M are the marks of the bytes, R the room. Assumes nothing. NOT here: that these are the machine's steps (crate text_right).
 use Rattle.std.specs.Prelude.{ℕ, ◌+◌, List, eqb, leb, ltb, set}

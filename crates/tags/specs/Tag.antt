@@ -1,11 +1,11 @@
 -- One byte of a start tag or an empty one, from its name on, and what stands in the room after it.
 --
---  name_byte r b R slot m         one byte more of a name, into its slot
---  tag_end r b                    its '>' or '/'
---  tag_tick, tagged_tick, gap_tick  in the tag's name; after its last attribute; after a blank
---  att_begun, att_tick, named_tick  the first byte of an attribute's name; a later one; the name is whole
---  equals_tick, value_tick         before its '='; before its value
---  quoted_tick M r b mark q, att_ended      in its value in the quotes q, where the bytes with the mark stay; after it
+--   name_byte r b R slot m         one byte more of a name, into its slot
+--   tag_end r b                    its '>' or '/'
+--   tag_tick, tagged_tick, gap_tick  in the tag's name; after its last attribute; after a blank
+--   att_begun, att_tick, named_tick  the first byte of an attribute's name; a later one; the name is whole
+--   equals_tick, value_tick         before its '='; before its value
+--   quoted_tick M r b mark q, att_ended      in its value in the quotes q, where the bytes with the mark stay; after it
 --
 -- M are the marks of the bytes, R the room. Assumes nothing. NOT here: that these are the machine's steps (crate text_right).
 use Rattle.std.specs.Prelude.{ℕ, ◌+◌, List, eqb, leb, ltb, set}

@@ -1,10 +1,10 @@
 -- The table of the bytes' marks, and what each mark means.
 --
---  marks_table         the table that the code has (crate chars, Table), under a shut name;  table_is: it is that
+--   marks_table         the table that the code has (crate chars, Table), under a shut name;  table_is: it is that
 --   every f i l        the test f passes at each place of l, counted from i, and its entry;  at_each: so at a place
 --   same a b           two answers are the same, as a test;  same_is: they are
 --   agrees c m         the mark m is in the table exactly at the bytes of the class c;  mark_is: so for every byte
---  plain_mark, double_mark, single_mark, dash_mark, name_mark_lem, start_mark, blank_mark      the seven marks
+--   plain_mark, double_mark, single_mark, dash_mark, name_mark_lem, start_mark, blank_mark      the seven marks
 --   beyond_mark        a byte of 128 or more
 --
 -- Assumes nothing.
@@ -16,7 +16,7 @@ use Rattle.std.specs.Int.Bits.{bit_and}
 use Rattle.std.proofs.Math.ListN.{get_or-eq_default}
 use borrow.Author.Tests.{lt-leb, le-leb, ltb-true, ltb-false}
 use Rattle.xml.specs.Class.{Class, in_class}
-use Rattle.xml.specs.Class.Laws.{and_l, and_r}
+use Rattle.xml.proofs.Class.Laws.{and_l, and_r}
 use Rattle.xml.specs.Chars.{blank, name_start, name_char, beyond, no_dash, plain, unquoted}
 use Rattle.chars.specs.Marks.{marked}
 use Rattle.chars.specs.Table

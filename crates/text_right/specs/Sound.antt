@@ -6,7 +6,7 @@
 --   Back R p k m                  the mode m is one to which the reader comes back
 --   EntityAt row n                n bytes of the entity at `row` can have been read, and it is the first row that begins so
 --   ValueAt row n                 n bytes of the value `row` of the XML declaration can have been read
---  entity_ok, value_ok, name_ok     these as tests;  entity_none: nothing was read
+--   entity_ok, value_ok, name_ok     these as tests;  entity_none: nothing was read
 --   PartAt k, SaidAt k            k is one of its parts; or none
 --   NameAt row n                  n bytes of the name of the part `row` can have been read, and some are left
 --   FitsIn p r                    the reader fits the mode p of the prolog;  Fits R r m: the mode m

@@ -1,16 +1,16 @@
 -- What state of the machine a reader and its room stand for, and what events it gives.
 --
---  names R d, atts_of R k        the names in the slots below d, the last first; of the first k attributes
+--   names R d, atts_of R k        the names in the slots below d, the last first; of the first k attributes
 --   place_of R p                  the place that the number p stands for
---  begun_in R s n                the first n bytes of slot s
---  part_no k, said_no k           the part k of the XML declaration; where 0 is none
---  value_left row n q            what is left of the value `row` in the quotes q after n bytes, as rows
---  form_rows f                   what is left of a character by its form
---  entity_left row n             what is left of the entities after the first n bytes of the entity at `row`
+--   begun_in R s n                the first n bytes of slot s
+--   part_no k, said_no k           the part k of the XML declaration; where 0 is none
+--   value_left row n q            what is left of the value `row` in the quotes q after n bytes, as rows
+--   form_rows f                   what is left of a character by its form
+--   entity_left row n             what is left of the entities after the first n bytes of the entity at `row`
 --   derives w rs                 what is left of some rows after the bytes w
---  prolog_state, end_state, amper_state, bang_state       the states in some modes
---  back_state, state_in           the state in a mode to which the reader comes back, and in any;  state_of r R: in the reader's own
---  evs_in, evs_of r R             the events that the reader gives
+--   prolog_state, end_state, amper_state, bang_state       the states in some modes
+--   back_state, state_in           the state in a mode to which the reader comes back, and in any;  state_of r R: in the reader's own
+--   evs_in, evs_of r R             the events that the reader gives
 --
 -- Assumes nothing. NOT here: that each byte leads from state to state (Right).
 use Rattle.std.specs.Prelude.{ℕ, zero, suc, ◌+◌, ◌*◌, ◌-◌, true, false, List, [], ◌∷◌, eqb, ltb, take, drop}

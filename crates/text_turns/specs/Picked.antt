@@ -1,6 +1,6 @@
 -- What all turns come to.
 --
---  offered_text b f text     what offering the events of a text comes to, with numbers for names by f
+--   offered_text b f text     what offering the events of a text comes to, with numbers for names by f
 --   Picked b N X file st E M       the text was worked on, for the query bytes b
 --   WorkedText N X file session st E M       so for the query that the session was begun with; or standard output took no more
 --

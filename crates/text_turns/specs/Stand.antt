@@ -1,8 +1,8 @@
 -- How far a text is read and its events are worked on, and what is more to do.
 --
---  begun_with session       before the first turn
+--   begun_with session       before the first turn
 --   refilled st i           all events are worked on, and those that the intake i has brought are to come
---  more_by .., more_text i s       there is more to do: events that are not worked on, or text that is not read
+--   more_by .., more_text i s       there is more to do: events that are not worked on, or text that is not read
 --   More i s                what is known then;  more_is;  done_is: where nothing is
 --   Refilled N X file st input R ev st' input' R' ev'      more events, where all that have come are worked on
 --

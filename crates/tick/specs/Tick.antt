@@ -1,6 +1,6 @@
 -- One byte of text, mode by mode.
 --
---  tick M r b R      the reader and its room after the byte b;  tick_in: in a mode
+--   tick M r b R      the reader and its room after the byte b;  tick_in: in a mode
 --   in_mode, in_mode_kept       by the mode that was found, where the room may have changed, and where not
 --
 -- M are the marks of the bytes, R the room. Assumes nothing. NOT here: that it is the machine's step (crate text_right).

@@ -1,6 +1,6 @@
 -- What is owed at the end of a stream, and by the query's answer: the parts that both programs share.
 --
---  finish_line_of q es       the last line where no event was refused;  last_line_by: by the refusal of one
+--   finish_line_of q es       the last line where no event was refused;  last_line_by: by the refusal of one
 --   last_line_owed          the last line by finish's answer, the events taken and the refusal is the one that is owed
 --   query_silent, not_admitted      only an admitted query is answered by no line
 --   begin_checked           with enough room begin answers the query
@@ -16,7 +16,7 @@ use Rattle.choice.specs.When.{when, when_false}
 use Rattle.meaning.specs.Limits.{elements_needed, nodes_needed}
 use Rattle.meaning.specs.Refusals.{short_room, already_stopped, unfinished, bad_length, bad_step}
 use Rattle.meaning.specs.Answer.{going, too_small}
-use Rattle.meaning.specs.Answer.Laws.{not_small}
+use Rattle.meaning.proofs.Answer.Laws.{not_small}
 use Rattle.meaning.specs.Stream.{Event, document}
 use Rattle.meaning.specs.Standing.{listed}
 use Rattle.query.specs.Rules.{step_bytes, longest, wrong_length}

@@ -1,8 +1,8 @@
 -- What holds between two turns of the program's loop, and what all turns come to.
 --
---  refusal_of r                the refusal that a number stands for: 0 is none
+--   refusal_of r                the refusal that a number stands for: 0 is none
 --   BegunFor b session         begin has made the session for the query bytes b, to be used with any room;  Started session: for some query
---  more_to_do refusal ended written      another turn is taken
+--   more_to_do refusal ended written      another turn is taken
 --   TurnTaken file s i E N out s' i' E' N'     a turn: a block of events or a read, by whether a whole record is there; a read leaves the room
 --   EventsSoFar b bytes s input E N    what working on the records of some bytes has come to, for the query bytes b, in the words of the meaning
 --   TurnsSoFar b file s input E N      what the turns have come to: the same for the bytes that reads of a file have given

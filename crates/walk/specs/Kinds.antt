@@ -1,8 +1,8 @@
 -- The kind of a mode's loop, and the mark that it goes by.
 --
---  kind_in m                 0 for a loop that goes over bytes with a mark; of names: 1 in a start tag, 2 of an attribute, 3 in an end tag
---  mark_in m                 the mark; 0, which no byte has, where the loop is another
---  pace_by k mark r          the loop of the kind k
+--   kind_in m                 0 for a loop that goes over bytes with a mark; of names: 1 in a start tag, 2 of an attribute, 3 in an end tag
+--   mark_in m                 the mark; 0, which no byte has, where the loop is another
+--   pace_by k mark r          the loop of the kind k
 --   by_kind, of_kind         by kind and mark it is the loop that the mode has
 --   skips, agrees, copies_tag, copies_attribute      what it is, by the kind that was found
 --

@@ -1,4 +1,3 @@
 pub mod Walk
 pub mod Turn
-pub mod Within
 pub mod Kinds

@@ -1,8 +1,8 @@
 -- The bytes that a loop takes, and the one after them.
 --
 --   Turned                  the reader, how far it went, and the room
---  ticked_at x end          after the byte at `end`, which came to x: past it, or before it where it was refused
---  turned_from M r t w      after the loop went as w says
+--   ticked_at x end          after the byte at `end`, which came to x: past it, or before it where it was refused
+--   turned_from M r t w      after the loop went as w says
 --   turned M r t at R       a turn from `at` on in the text t
 --   turn_end, turn_refused, turn_on      at the text's end, at a byte that is refused, and at one that is taken
 --

@@ -1,7 +1,7 @@
 -- Some bytes of text at once.
 --
---  innermost_of p             the slot of the innermost open element; the first where none is open
---  pace_in m r, pace_of r      which loop the mode has
+--   innermost_of p             the slot of the innermost open element; the first where none is open
+--   pace_in m r, pace_of r      which loop the mode has
 --   in_mode, at_pace          by the mode, and by the pace, that was found
 --   walked M r at t R         how far the loop goes in the text t that begins at `at`, how many bytes of a name are read then, and the room
 --

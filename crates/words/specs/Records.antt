@@ -4,11 +4,11 @@
 --                       and its fields
 --   room S              how many bytes the records take
 --   blank S             the record of zeros, read where there is none
---  with_field S g v a   a with v in field g
+--   with_field S g v a   a with v in field g
 --   Records A           all records: as A, used or not, and their spare numbers
---  records_of S ws, records_in S bs      those of numbers, and of bytes
+--   records_of S ws, records_in S bs      those of numbers, and of bytes
 --   at S R i            record i;  set_at i a R: record i is a;  put_at S i g v R: field g of record i is v
---  laid_numbers S R, laid S R       the numbers of the records R, and their bytes
+--   laid_numbers S R, laid S R       the numbers of the records R, and their bytes
 --
 -- Assumes nothing. NOT here: what writing a number does to records, and that laid undoes records_in (Records.Laws).
 pub mod Laws

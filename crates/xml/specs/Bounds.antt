@@ -1,13 +1,12 @@
 -- The limits of the reader of XML text and of its list of names, each in this one place, and the numbers that stand for no name of the list.
 --
---  name_limit, attribute_limit      how many bytes a name may have, and how many attributes a tag
---  nest_limit                      how many elements may be inside each other: as many as a session may have open
---  list_limit                      how many names a list may have
---  unknown_name, remark_name        the numbers of a name that the list has not, and of a comment
+--   name_limit, attribute_limit      how many bytes a name may have, and how many attributes a tag
+--   nest_limit                      how many elements may be inside each other: as many as a session may have open
+--   list_limit                      how many names a list may have
+--   unknown_name, remark_name        the numbers of a name that the list has not, and of a comment
 --
 -- Each is shut, so that a number is not unrolled: a proof that needs one says `unfolding`, or cites its law (Bounds.Laws).
 -- Assumes nothing. NOT here: which refusal each limit gives (Machine), the refusals' numbers (Refused).
-pub mod Laws
 use Rattle.std.specs.Prelude.{ℕ}
 use Rattle.meaning.specs.Limits.{depth_limit}
 

@@ -1,8 +1,8 @@
 -- The bytes of XML text, by what they may be: W3C's characters, ASCII as classes of bytes and the others as rows of UTF-8.
 --
---  blank, name_start, name_char     [3], [4] and [4a], the ASCII parts;  beyond: the bytes of characters that are not ASCII
+--   blank, name_start, name_char     [3], [4] and [4a], the ASCII parts;  beyond: the bytes of characters that are not ASCII
 --   utf8                           [2] Char above #x7F: the rows of Unicode's table 3-7 over one byte, less U+FFFE and U+FFFF
---  no_dash, plain, unquoted q      [2] Char below #x80 without what ends a run of comment, of character data, of a value in the quotes q
+--   no_dash, plain, unquoted q      [2] Char below #x80 without what ends a run of comment, of character data, of a value in the quotes q
 --   quote q                        double quotes, or single
 --
 -- Assumes nothing. NOT here: what a class and a row are (Class).

@@ -3,7 +3,6 @@
 --   bounds           names of at most 64 bytes, at most 16 attributes, at most 256 elements inside each other
 --
 -- Assumes nothing. NOT here: the numbers (Bounds).
-pub mod Laws
 use Rattle.std.specs.Prelude.{ℕ, suc, ◌≤◌, T, leb}
 use Rattle.std.proofs.Common.{arith, leb→le, le→leb}
 use Rattle.xml.specs.Bounds.{name_limit, attribute_limit, nest_limit}

@@ -1,10 +1,10 @@
 -- The refusal numbers of the reader of XML text, each in this one place.
 --
---  misplaced, not_char, doctype, instruction, cdata, char_reference, other_entity       a byte's
---  long_name, many_attributes, twice, other_end, nested, other_encoding, foreign_name     a byte's
+--   misplaced, not_char, doctype, instruction, cdata, char_reference, other_entity       a byte's
+--   long_name, many_attributes, twice, other_end, nested, other_encoding, foreign_name     a byte's
 --   unended                                      the end's
---  scant, reader_stopped                         a call's
---  many_names, long_listed, not_name               a line's of the list of names
+--   scant, reader_stopped                         a call's
+--   many_names, long_listed, not_name               a line's of the list of names
 --
 -- Assumes nothing. NOT here: when each is given (Machine for a byte, crate names for a line), in plain words (docs/XML.md).
 use Rattle.std.specs.Prelude.{ℕ}

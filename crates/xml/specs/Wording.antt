@@ -2,7 +2,7 @@
 --
 --   Several P t        t is a sequence of Chars, each of which passes P
 --   Nowhere x t        x is nowhere inside t
---  code_points         [2] Char, as numbers
+--   code_points         [2] Char, as numbers
 --   encode n           the UTF-8 form of the code point n
 --
 -- Assumes nothing. NOT here: that the grammar means the same (crate reading, Wording and Forms).

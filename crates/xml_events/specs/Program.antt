@@ -1,9 +1,9 @@
 -- WHAT THE PROGRAM OWES, and what it promises of a run.
 --
---  verdict_on names text     the verdict: that on the list of names, and for a list that is taken that on the text
---  owed_records names text   all that is written to standard output
+--   verdict_on names text     the verdict: that on the list of names, and for a list that is taken that on the text
+--   owed_records names text   all that is written to standard output
 --   Complained v             the refusal's line was handed to standard error; nothing where there is none
---  more_to_do refusal ended written      another turn is taken
+--   more_to_do refusal ended written      another turn is taken
 --   Written N X file i       the turns have come to the end of the text, or to a refused byte, and all records of its events are delivered
 --   Stood N X file s         Written; or standard output failed
 --   TextAnswered N X v       the text was read, v is the verdict on it, and the records of its events are delivered; or Failed

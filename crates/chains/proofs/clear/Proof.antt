@@ -9,7 +9,7 @@ use lib.ListN.{length, drop, set, replicate, length-set}
 use Rattle.spelling.specs.Bucket.{buckets}
 use Rattle.spelling.specs.Bucket.Laws.{buckets_is}
 use Rattle.chains.specs.Index.{cleared}
-use Rattle.chains.specs.Index.Room.{index_words_is}
+use Rattle.chains.proofs.Index.Room.{index_words_is}
 use Rattle.chains.proofs.clear.Statement.{statement}
 use Rattle.chains.proofs.clear.Tie as tie
 

@@ -5,7 +5,7 @@ use native.Mathlib.Omega.{arith}
 use borrow.Author.Rules.{rules}
 use lib.ListN.{length, length-set}
 use Rattle.listed.specs.Lines.Laws.{line_ends}
-use Rattle.chains.specs.Index.Room.{ready_few}
+use Rattle.chains.proofs.Index.Room.{ready_few}
 use Rattle.chains.proofs.Laying.{Standing, lay_starts, more, place_within, short, turn, lay_done}
 use Rattle.chains.proofs.lay.Statement.{statement}
 use Rattle.chains.proofs.lay.Tie as tie

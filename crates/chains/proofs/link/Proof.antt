@@ -5,7 +5,7 @@ use mathlib.Core.Path.{◌≡◌, refl, ap, ◌∙◌}
 use lib.ListN.{length-set}
 use Rattle.listed.specs.Lines.{lines_of}
 use Rattle.chains.specs.Index.{partly, built}
-use Rattle.chains.specs.Index.Room.{ready_few}
+use Rattle.chains.proofs.Index.Room.{ready_few}
 use Rattle.chains.proofs.Linking.{Chaining, entry_within, entry_fits, bucket_small, bucket_within, linked_small, turn}
 use Rattle.chains.proofs.link.Statement.{statement}
 use Rattle.chains.proofs.link.Tie as tie

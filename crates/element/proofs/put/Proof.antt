@@ -2,7 +2,7 @@
 use borrow.Author.Rules.{rules}
 use native.Mathlib.Omega.{arith}
 use Rattle.meaning.specs.Limits.{depth_limit}
-use Rattle.meaning.specs.Limits.Laws.{elements_is}
+use Rattle.meaning.proofs.Limits.Laws.{elements_is}
 use Rattle.element.specs.Element.Laws.{put_is}
 use Rattle.element.proofs.put.Statement.{statement}
 use Rattle.element.proofs.put.Tie as tie

@@ -5,7 +5,7 @@ use Prim.Native.Nat.{◌-◌, ◌≤◌}
 use mathlib.Core.Path.{ap}
 use lib.Dec.{eqb}
 use Rattle.sets.specs.Set.{join}
-use Rattle.sets.specs.Collect.{Collected, collect_none, collect_only, collect_all}
+use Rattle.sets.proofs.Collect.{Collected, collect_none, collect_only, collect_all}
 use Rattle.plan_bytes.specs.Kept.{asking_in}
 use Rattle.elements.proofs.all_asking.Statement.{statement}
 use Rattle.elements.proofs.all_asking.Tie as tie

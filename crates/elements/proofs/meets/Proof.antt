@@ -7,7 +7,7 @@ use lib.Bits.{bit_and}
 use lib.Dec.{eqb}
 use lib.ListN.{get_or}
 use Rattle.sets.specs.Set.{covers}
-use Rattle.sets.specs.Collect.{Collected, collect_none, collect_all}
+use Rattle.sets.proofs.Collect.{Collected, collect_none, collect_all}
 use Rattle.choice.specs.Collect.{collect_told}
 use Rattle.plan.specs.Plan.{meets}
 use Rattle.plan_bytes.specs.Kept.{kept_in}

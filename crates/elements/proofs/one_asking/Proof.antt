@@ -3,7 +3,7 @@ use borrow.Author.Rules.{rules}
 use mathlib.Core.Path.{ap, ◌∙◌}
 use lib.Dec.{eqb}
 use Rattle.sets.specs.Set.{only_if}
-use Rattle.sets.specs.Collect.{flag_shift}
+use Rattle.sets.proofs.Collect.{flag_shift}
 use Rattle.elements.proofs.one_asking.Statement.{statement}
 use Rattle.elements.proofs.one_asking.Tie as tie
 

@@ -21,7 +21,7 @@ use Rattle.meaning.specs.Limits.{depth_limit}
 use Rattle.sets.specs.Set.{join, meet, without}
 use Rattle.plan.specs.Plan.{Plan, named, meets, lift, turn}
 use Rattle.engine.specs.Quick.{Frame, Rise, raised, rise, refreshed, refresh, fresh, frames_after, sure_at, possible_at}
-use Rattle.engine.specs.Quick.Snoc.{rise_snoc_stop, rise_snoc_on, rise_length}
+use Rattle.engine.proofs.Quick.Snoc.{rise_snoc_stop, rise_snoc_on, rise_length}
 use Rattle.element.specs.Element.{Elements, elements_in, no_frame, frame_at, raised_in, refreshed_in, opened_in}
 use Rattle.element.specs.Element.Laws.{frames_length}
 use Rattle.elements.specs.Elements.{with, Risen, risen_by, risen_in, refreshed_from, pushed_in}

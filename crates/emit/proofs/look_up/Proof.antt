@@ -1,7 +1,7 @@
 -- The name is a part of the room. Assumes nothing.
 use borrow.Author.Rules.{rules}
 use mathlib.Core.Path.{ap, ◌∙◌}
-use Rattle.xml.specs.Bounds.Laws.{unknown_is}
+use Rattle.xml.proofs.Bounds.Laws.{unknown_is}
 use Rattle.names.specs.Number.{number_of}
 use Rattle.names.specs.Number.Laws.{number_within}
 use Rattle.slots.specs.Slots.{name_in}

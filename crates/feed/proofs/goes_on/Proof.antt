@@ -4,7 +4,7 @@ use mathlib.Core.Bool.{false}
 use lib.Dec.{leb}
 use borrow.Author.Tests.{eq-eqb, ne_eqb}
 use Rattle.choice.specs.When.{when_yes, when_no}
-use Rattle.meaning.specs.Limits.Laws.{output_is}
+use Rattle.meaning.proofs.Limits.Laws.{output_is}
 use Rattle.feed.specs.Fed.{goes_on}
 use Rattle.feed.proofs.goes_on.Statement.{statement}
 use Rattle.feed.proofs.goes_on.Tie as tie

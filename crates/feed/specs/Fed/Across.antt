@@ -1,6 +1,6 @@
 -- Two ways to take one event that differ only in what they are taken at.
 --
---  across f c, all_across f r      what one event came to, and a block, with the seat as f shows it
+--   across f c, all_across f r      what one event came to, and a block, with the seat as f shows it
 --   Alike one-S one-T f Ok         at the seats that are Ok the first way, at what f shows, comes to what the second does, as f shows it
 --   fed_across                     so a block does
 --

@@ -2,7 +2,7 @@
 --
 --   step_came         what a step answered, as what one event comes to
 --   at_refusal        a step's refusal is that of the event with the stop;  at_taken: what one that nothing refuses comes to
---  refused_at_lem        a refused step leaves all as it was but for the stop
+--   refused_at_lem        a refused step leaves all as it was but for the stop
 --   whole_step        a step leaves the rooms as long as they must be, and what is said by 0 or not 0 is said by 0 or 1
 --   feed_one          two results that the promise allows are equal, and so is all that was lent
 --

@@ -4,7 +4,7 @@ use native.Mathlib.Omega.{arith}
 use mathlib.Core.Path.{refl}
 use Rattle.choice.specs.When.{when_yes, when_no}
 use Rattle.meaning.specs.Limits.{output_needed}
-use Rattle.meaning.specs.Limits.Laws.{output_is}
+use Rattle.meaning.proofs.Limits.Laws.{output_is}
 use Rattle.lent.specs.Lent.{refuse_lent}
 use Rattle.lent.proofs.refuse_lent.Goals as goal
 

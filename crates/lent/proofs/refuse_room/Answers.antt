@@ -2,8 +2,8 @@
 use native.Mathlib.Omega.{arith}
 use mathlib.Core.Path.{refl}
 use Rattle.choice.specs.When.{when_yes, when_no}
-use Rattle.meaning.specs.Answer.Laws.{not_small, few_elements_lem, few_nodes_lem}
-use Rattle.meaning.specs.Limits.Laws.{elements_is, nodes_is}
+use Rattle.meaning.proofs.Answer.Laws.{not_small, few_elements_lem, few_nodes_lem}
+use Rattle.meaning.proofs.Limits.Laws.{elements_is, nodes_is}
 use Rattle.lent.specs.Lent.{refuse_room}
 use Rattle.lent.proofs.refuse_room.Goals as goal
 

@@ -7,7 +7,7 @@
 use Rattle.std.specs.Prelude.{ℕ, ◌≡◌, refl, Bool, true, false}
 use Rattle.choice.specs.When.{when}
 use Rattle.meaning.specs.Answer.{too_small}
-use Rattle.meaning.specs.Answer.Laws.{not_small}
+use Rattle.meaning.proofs.Answer.Laws.{not_small}
 use Rattle.meaning.specs.Refusals.{short_room}
 use Rattle.lent.specs.Lent.{refuse_room, RoomFits}
 

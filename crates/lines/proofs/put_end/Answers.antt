@@ -1,7 +1,7 @@
 -- `put_end` puts the word and the number's line behind it, and a line is short enough for the text. Assumes nothing.
 use native.Mathlib.Omega.{arith}
-use Rattle.lines.proofs.TextLaws.{line_short, put_end}
-use Rattle.lines.proofs.PutLaws.{put_counts}
+use Rattle.lines.proofs.Text.Laws.{line_short, put_end}
+use Rattle.lines.proofs.Put.Laws.{put_counts}
 use Rattle.lines.proofs.put_end.Goals as goal
 
 pub put_line-requires : goal.put_line-requires

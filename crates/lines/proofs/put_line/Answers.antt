@@ -1,7 +1,7 @@
 -- `put_line` puts the numeral and one byte behind it; the line is that much longer. Assumes nothing.
 use native.Mathlib.Omega.{arith}
-use Rattle.lines.proofs.PutLaws.{put_one, put_then}
-use Rattle.lines.proofs.TextLaws.{length_line}
+use Rattle.lines.proofs.Put.Laws.{put_one, put_then}
+use Rattle.lines.proofs.Text.Laws.{length_line}
 use Rattle.lines.proofs.put_line.Goals as goal
 
 pub put_number-end-requires : goal.put_number-end-requires

@@ -3,8 +3,8 @@
 use native.Mathlib.Omega.{arith}
 use mathlib.Core.Path.{◌≡◌, refl, ◌∙◌}
 use Rattle.lines.specs.Text.{lines_of, nodes_in}
-use Rattle.lines.proofs.TextLaws.{line_short, lines_short, put_next}
-use Rattle.lines.proofs.PutLaws.{put_none, put_counts}
+use Rattle.lines.proofs.Text.Laws.{line_short, lines_short, put_next}
+use Rattle.lines.proofs.Put.Laws.{put_none, put_counts}
 use Rattle.lines.proofs.put_lines.Goals as goal
 
 pub loop-i-init : goal.loop-i-init

@@ -3,8 +3,8 @@
 use native.Mathlib.Omega.{arith}
 use mathlib.Core.Path.{refl, ◌∙◌}
 use lib.ListN.{length-set}
-use Rattle.lines.proofs.DecimalLaws.{length_more, length_some}
-use Rattle.lines.proofs.PutLaws.{digit_put, digit_last}
+use Rattle.lines.proofs.Decimal.Laws.{length_more, length_some}
+use Rattle.lines.proofs.Put.Laws.{digit_put, digit_last}
 use Rattle.lines.proofs.put_number.Goals as goal
 
 pub width-requires : goal.width-requires

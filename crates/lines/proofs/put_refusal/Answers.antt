@@ -1,8 +1,8 @@
 -- `put_refusal` puts four parts, each behind the one before; a number under 256 has at most 3 digits, and one of 8 bytes at most 20.
 -- Assumes nothing.
 use native.Mathlib.Omega.{arith}
-use Rattle.lines.proofs.TextLaws.{put_refusal}
-use Rattle.lines.proofs.DecimalLaws.{length_short}
+use Rattle.lines.proofs.Text.Laws.{put_refusal}
+use Rattle.lines.proofs.Decimal.Laws.{length_short}
 use Rattle.lines.proofs.put_refusal.Goals as goal
 
 pub put_number-word-requires : goal.put_number-word-requires

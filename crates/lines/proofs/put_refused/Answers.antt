@@ -1,7 +1,7 @@
 -- `put_refused` puts the word and the refusal's line behind it; a number under 256 makes a short line. Assumes nothing.
 use native.Mathlib.Omega.{arith}
-use Rattle.lines.proofs.TextLaws.{line_short, put_refused}
-use Rattle.lines.proofs.PutLaws.{put_counts}
+use Rattle.lines.proofs.Text.Laws.{line_short, put_refused}
+use Rattle.lines.proofs.Put.Laws.{put_counts}
 use Rattle.lines.proofs.put_refused.Goals as goal
 
 pub put_line-requires : goal.put_line-requires

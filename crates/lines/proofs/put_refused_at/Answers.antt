@@ -1,7 +1,7 @@
 -- `put_refused_at` puts "refused R at E", at most 35 bytes, and a line feed behind it. Assumes nothing.
 use native.Mathlib.Omega.{arith}
-use Rattle.lines.proofs.TextLaws.{refusal_short, put_refused_at}
-use Rattle.lines.proofs.PutLaws.{put_counts}
+use Rattle.lines.proofs.Text.Laws.{refusal_short, put_refused_at}
+use Rattle.lines.proofs.Put.Laws.{put_counts}
 use Rattle.lines.proofs.put_refused_at.Goals as goal
 
 pub put_word-requires : goal.put_word-requires

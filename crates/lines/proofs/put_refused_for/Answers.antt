@@ -1,7 +1,7 @@
 -- `put_refused_for` puts "refused R at E", at most 35 bytes, the word behind it and the reason's line, at most 4 bytes. Assumes nothing.
 use native.Mathlib.Omega.{arith}
-use Rattle.lines.proofs.TextLaws.{line_short, refusal_short, put_refused_for}
-use Rattle.lines.proofs.PutLaws.{put_counts}
+use Rattle.lines.proofs.Text.Laws.{line_short, refusal_short, put_refused_for}
+use Rattle.lines.proofs.Put.Laws.{put_counts}
 use Rattle.lines.proofs.put_refused_for.Goals as goal
 
 pub put_word-number-requires : goal.put_word-number-requires

@@ -3,7 +3,7 @@
 use native.Mathlib.Omega.{arith}
 use mathlib.Core.Path.{refl}
 use lib.ListN.{length-set}
-use Rattle.lines.proofs.PutLaws.{put_none, put_more, put_all}
+use Rattle.lines.proofs.Put.Laws.{put_none, put_more, put_all}
 use Rattle.lines.proofs.put_word.Goals as goal
 
 pub loop-i-init : goal.loop-i-init

@@ -1,7 +1,7 @@
 -- `width` counts the digits of the numeral. The invariant: the digits that are left and those passed are the number's, and one.
 -- Assumes nothing.
 use native.Mathlib.Omega.{arith}
-use Rattle.lines.proofs.DecimalLaws.{length_single, length_more, length_short}
+use Rattle.lines.proofs.Decimal.Laws.{length_single, length_more, length_short}
 use Rattle.lines.proofs.width.Goals as goal
 
 pub loop-rest-init : goal.loop-rest-init

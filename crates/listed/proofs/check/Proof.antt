@@ -6,7 +6,7 @@ use mathlib.Core.Path.{◌≡◌, refl, sym, ◌∙◌}
 use borrow.Author.Rules.{rules}
 use lib.ListN.{length, drop}
 use Rattle.xml.specs.Bounds.{list_limit}
-use Rattle.xml.specs.Bounds.Laws.{list_limit_is}
+use Rattle.xml.proofs.Bounds.Laws.{list_limit_is}
 use Rattle.listed.specs.Lines.{lines_of}
 use Rattle.listed.specs.Lines.Laws.{line_ends}
 use Rattle.listed.specs.Listed.{answer_from, list_answer}

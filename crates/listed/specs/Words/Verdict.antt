@@ -1,8 +1,8 @@
 -- What is wrong with a line, in words and as a test.
 --
---  name_exactly      is_name is Name
+--   name_exactly      is_name is Name
 --   Verdict n line r  line number n gets the refusal r, or 0: a constructor for each
---  judged            fault_of gives the verdict
+--   judged            fault_of gives the verdict
 --   is_right, is_over, is_no_name, is_long       what a verdict says, by its number
 --   one_verdict       there is one
 --
@@ -12,7 +12,7 @@ use Rattle.std.proofs.Common.{arith, sym, subst, ◌∙◌, ltb-true, ltb-false}
 use Rattle.std.proofs.lemmas.Bool.{not-true, not-false}
 use Rattle.choice.specs.When.{never, when_known}
 use Rattle.xml.specs.Class.{Class, in_class, In}
-use Rattle.xml.specs.Class.Laws.{and_l, and_r, and_i, T_true}
+use Rattle.xml.proofs.Class.Laws.{and_l, and_r, and_i, T_true}
 use Rattle.xml.specs.Chars.{name_start, name_char}
 use Rattle.xml.specs.Bounds.{name_limit, list_limit}
 use Rattle.xml.specs.Refused.{many_names, long_listed, not_name}

@@ -4,7 +4,7 @@ use mathlib.Core.Path.{◌≡◌, refl, sym, ap, ◌∙◌}
 use borrow.Author.Rules.{rules}
 use Rattle.listed.specs.declared.Listing.{Listing}
 use Rattle.listed.specs.Words.Laws.{no_refusal}
-use Rattle.chains.specs.Index.Room.{index_words_is}
+use Rattle.chains.proofs.Index.Room.{index_words_is}
 use Rattle.names.proofs.Answers.{answer_scant, answer_refused, answer_built}
 use Rattle.names.proofs.build.Statement.{statement}
 use Rattle.names.proofs.build.Tie as tie

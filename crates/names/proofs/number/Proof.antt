@@ -6,10 +6,10 @@ use mathlib.Core.Path.{◌≡◌, sym, ap, ◌∙◌}
 use borrow.Author.Rules.{rules}
 use lib.ListN.{get_or}
 use Rattle.xml.specs.Bounds.{list_limit, unknown_name}
-use Rattle.xml.specs.Bounds.Laws.{list_limit_is}
+use Rattle.xml.proofs.Bounds.Laws.{list_limit_is}
 use Rattle.spelling.specs.Bucket.{buckets}
 use Rattle.spelling.specs.Bucket.Laws.{buckets_is, bucket_below}
-use Rattle.chains.specs.Index.Room.{index_words_is}
+use Rattle.chains.proofs.Index.Room.{index_words_is}
 use Rattle.names.specs.Number.{fits_at, next_of, walked, number_of}
 use Rattle.names.specs.Number.Laws.{walk_none, walk_over, walk_here, walk_on, walk_end}
 use Rattle.names.proofs.number.Statement.{statement}

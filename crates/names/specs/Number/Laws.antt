@@ -16,7 +16,7 @@ use Rattle.std.proofs.lemmas.Bool.{lt-leb}
 use Rattle.choice.specs.Count.{down}
 use Rattle.choice.specs.When.{when, never, when_true, when_false, when_known}
 use Rattle.xml.specs.Bounds.{list_limit, unknown_name}
-use Rattle.xml.specs.Bounds.Laws.{list_limit_is, unknown_is}
+use Rattle.xml.proofs.Bounds.Laws.{list_limit_is, unknown_is}
 use Rattle.xml.specs.Grammar.{same_name}
 use Rattle.spelling.specs.Bucket.{bucket_of}
 use Rattle.names.specs.Number.{spelled_at, fits_at, next_of, is_place, walked, number_of}

@@ -2,7 +2,7 @@
 use borrow.Author.Rules.{rules}
 use native.Mathlib.Omega.{arith}
 use Rattle.meaning.specs.Limits.{held_limit}
-use Rattle.meaning.specs.Limits.Laws.{nodes_is}
+use Rattle.meaning.proofs.Limits.Laws.{nodes_is}
 use Rattle.node.specs.Node.Laws.{put_is}
 use Rattle.node.proofs.put.Statement.{statement}
 use Rattle.node.proofs.put.Tie as tie

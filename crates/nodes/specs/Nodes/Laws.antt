@@ -28,9 +28,9 @@ use Rattle.sets.specs.Set.{overlaps}
 use Rattle.plan.specs.Plan.{Plan, last_given, up}
 use Rattle.engine.specs.Engine.{keep_if, keep}
 use Rattle.engine.specs.Quick.{Frame, Waiting, met_at, sure_at, certain_if, certain, counted_if, counted, went_if, cut, moved, stay}
-use Rattle.engine.specs.Quick.Snoc.{cut_snoc_on, cut_snoc_stop}
+use Rattle.engine.proofs.Quick.Snoc.{cut_snoc_on, cut_snoc_stop}
 use Rattle.records.specs.Write.{node_bytes, buffer}
-use Rattle.records.specs.Write.Laws.{buffer_none, buffer_snoc}
+use Rattle.records.proofs.Write.Laws.{buffer_none, buffer_snoc}
 use Rattle.element.specs.Element.{elements_in, no_frame, frame_at}
 use Rattle.element.specs.Element.Laws.{frames_length}
 use Rattle.node.specs.Node.{Queue, queue_in, no_node, node_at, wrote_in}

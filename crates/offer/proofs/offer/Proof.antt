@@ -4,7 +4,7 @@ use native.Mathlib.Omega.{arith}
 use mathlib.Core.Path.{sym, ◌∙◌}
 use lib.Seq.{length-take-le}
 use Rattle.lent.specs.Lent.Laws.{room_fits}
-use Rattle.meaning.specs.Limits.Laws.{elements_is, nodes_is}
+use Rattle.meaning.proofs.Limits.Laws.{elements_is, nodes_is}
 use Rattle.numbers.specs.Numbers.{numbers_in}
 use Rattle.plan_bytes.specs.Kept.{kept_in}
 use Rattle.feed.specs.Steps.{seat, came}

@@ -15,7 +15,7 @@ use mathlib.Core.List.{List, ◌++◌}
 use Rattle.choice.specs.When.{when, when_false, when_no, when_either}
 use Rattle.lent.specs.Lent.{refuse_room, refuse_lent}
 use Rattle.meaning.specs.Answer.{too_small}
-use Rattle.meaning.specs.Answer.Laws.{not_small}
+use Rattle.meaning.proofs.Answer.Laws.{not_small}
 use Rattle.meaning.specs.Limits.{output_needed, elements_needed, nodes_needed}
 use Rattle.meaning.specs.Refusals.{short_output, short_room, stops}
 use Rattle.plan.specs.Plan.{Plan}

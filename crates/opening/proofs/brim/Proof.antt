@@ -3,7 +3,7 @@ use borrow.Author.Rules.{rules}
 use native.Mathlib.Omega.{arith}
 use borrow.Author.Tests.{not-true}
 use mathlib.Core.Path.{sym, ◌∙◌}
-use Rattle.meaning.specs.Limits.Laws.{elements_is}
+use Rattle.meaning.proofs.Limits.Laws.{elements_is}
 use Rattle.opening.specs.Opening.Laws.{over_dead, over_copied}
 use Rattle.opening.proofs.brim.Statement.{statement}
 use Rattle.opening.proofs.brim.Tie as tie

@@ -1,7 +1,7 @@
 -- Below the brim, or at it. Assumes nothing.
 use borrow.Author.Rules.{rules}
 use native.Mathlib.Omega.{arith}
-use Rattle.meaning.specs.Limits.Laws.{held_is}
+use Rattle.meaning.proofs.Limits.Laws.{held_is}
 use Rattle.opening.specs.Opening.Laws.{over_not}
 use Rattle.opening.proofs.full.Statement.{statement}
 use Rattle.opening.proofs.full.Tie as tie

@@ -22,7 +22,7 @@ use Rattle.meaning.specs.Limits.{depth_limit, held_limit}
 use Rattle.sets.specs.Set.{meet, without}
 use Rattle.plan.specs.Plan.{Plan, named, last_given}
 use Rattle.engine.specs.Quick.{Frame, Rise, rise, frames_after, sure_at, possible_at, Opening, opening, opening_from, judged, over, went_if}
-use Rattle.engine.specs.Quick.Snoc.{frames_after_length}
+use Rattle.engine.proofs.Quick.Snoc.{frames_after_length}
 use Rattle.element.specs.Element.{Elements, elements_in}
 use Rattle.element.specs.Element.Laws.{frames_length}
 use Rattle.elements.specs.Elements as elements

@@ -2,7 +2,7 @@
 use mathlib.Core.Logic.{inl}
 use borrow.Author.Rules.{rules}
 use native.Mathlib.Omega.{arith}
-use Rattle.meaning.specs.Limits.Laws.{elements_is, nodes_is}
+use Rattle.meaning.proofs.Limits.Laws.{elements_is, nodes_is}
 use Rattle.promise.specs.Promise.{begin_of}
 use Rattle.turns.specs.Owed.{begin_checked, answered_by}
 use Rattle.pick.specs.Program.Laws.{refused_lined, silent_admitted, admitted_lined}

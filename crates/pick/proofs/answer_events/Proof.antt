@@ -3,7 +3,7 @@ use native.Mathlib.Omega.{arith}
 use mathlib.Core.Logic.{inl, inr}
 use mathlib.Core.Path.{refl}
 use borrow.Author.Rules.{rules}
-use Rattle.meaning.specs.Limits.Laws.{node_limit_is, output_is}
+use Rattle.meaning.proofs.Limits.Laws.{node_limit_is, output_is}
 use Rattle.session.specs.Event.Laws.{finish_is}
 use Rattle.lines.proofs.Put.Laws.{put_taken}
 use Rattle.pick.specs.Program.Laws.{streamed_lined}

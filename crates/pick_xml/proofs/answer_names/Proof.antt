@@ -1,8 +1,8 @@
 -- `pick_xml::answer_names` meets its contract. Assumes nothing.
 use native.Mathlib.Omega.{arith}
 use mathlib.Core.Logic.{inl}
-use Rattle.chains.specs.Index.Room.{index_words_is}
-use Rattle.names.specs.Built.{build_length}
+use Rattle.chains.proofs.Index.Room.{index_words_is}
+use Rattle.names.proofs.Built.{build_length}
 use Rattle.lines.proofs.Put.Laws.{put_taken}
 use Rattle.turns.specs.Owed.{answered_by}
 use Rattle.intake.specs.Names.{names_read}

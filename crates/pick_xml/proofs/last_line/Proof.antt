@@ -1,6 +1,6 @@
 -- `pick_xml::last_line` meets its contract. Assumes nothing.
 use native.Mathlib.Omega.{arith}
-use Rattle.meaning.specs.Limits.Laws.{node_limit_is}
+use Rattle.meaning.proofs.Limits.Laws.{node_limit_is}
 use Rattle.session.specs.Event.Laws.{finish_is}
 use Rattle.pick_xml.specs.Program.Laws.{put_line, line_refused, line_text, line_finish}
 use borrow.Author.Rules.{rules}

@@ -26,7 +26,7 @@ use Rattle.listed.specs.Listed.{list_answer}
 use Rattle.listed.specs.declared.Listing.{Listing}
 use Rattle.chains.specs.Index.{index_words}
 use Rattle.names.specs.Answer.{BuildGives}
-use Rattle.names.specs.Built.{list_refused, build_finds}
+use Rattle.names.proofs.Built.{list_refused, build_finds}
 use Rattle.names.specs.Number.{number_of}
 use Rattle.session.specs.declared.Start.{Start}
 use Rattle.session.specs.declared.Start.TheVariants as started

@@ -5,7 +5,7 @@ use mathlib.Core.Path.{refl}
 use lib.Dec.{eqb}
 use lib.ListN.{get_or}
 use borrow.Author.Rules.{rules}
-use Rattle.sets.specs.Collect.{Collected, collect_none, collect_flag, collect_all}
+use Rattle.sets.proofs.Collect.{Collected, collect_none, collect_flag, collect_all}
 use Rattle.plan.proofs.plain_of.Statement.{statement}
 use Rattle.plan.proofs.plain_of.Tie as tie
 

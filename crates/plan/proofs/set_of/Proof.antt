@@ -6,7 +6,7 @@ use mir.Val.{bool_byte}
 use lib.ListN.{get_or}
 use borrow.Author.Rules.{rules}
 use Rattle.sets.specs.Set.{join}
-use Rattle.sets.specs.Collect.{Collected, collect_none, collect_flag, collect_all}
+use Rattle.sets.proofs.Collect.{Collected, collect_none, collect_flag, collect_all}
 use Rattle.plan.specs.Planned.{step_at, passed}
 use Rattle.plan.proofs.set_of.Statement.{statement}
 use Rattle.plan.proofs.set_of.Tie as tie

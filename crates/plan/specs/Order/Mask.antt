@@ -8,7 +8,7 @@
 --   meet_prefix        met with a mask of the first steps alone, what stands after them falls away
 --   mask_agree, any_agree      sets that agree along the list
 --   mask_front         a set that has none of the later steps
---  mask_of_listed      a mask made place by place from a list of what the steps have
+--   mask_of_listed      a mask made place by place from a list of what the steps have
 --
 -- Assumes nothing.
 use Rattle.std.specs.Prelude.{ℕ, zero, suc, ◌+◌, ◌*◌, ◌≡◌, refl, Bool, true, false, not, ◌&&◌, ◌||◌, List, [], ◌∷◌, ◌++◌, map, eqb, ltb, length, get_or}
@@ -17,9 +17,9 @@ use Rattle.std.proofs.Math.Bool.{and-false}
 use Rattle.std.proofs.Math.Dec.{leb-suc-suc}
 use Rattle.meaning.specs.Query.{Steps, Numbered}
 use Rattle.sets.specs.Set.{member, join, meet, covers, overlaps, bit, mask_of}
-use Rattle.sets.specs.Set.Laws.{member_join, member_meet, same_members}
-use Rattle.sets.specs.Set.Of.{member_mask_of}
-use Rattle.sets.specs.Set.Order.{bool_iff}
+use Rattle.sets.proofs.Set.Laws.{member_join, member_meet, same_members}
+use Rattle.sets.proofs.Set.Of.{member_mask_of}
+use Rattle.sets.proofs.Set.Order.{bool_iff}
 use Rattle.plan.specs.Every.{Every, e_nil, e_cons}
 use Rattle.plan.specs.Order.{any_of, at, mask}
 

@@ -6,7 +6,7 @@
 --   given_shift        among the steps of h, that which a step hangs on is one place further
 --   wanted_first, wanted_shift      and the steps on which a step of N hangs are those of N, one place further
 --   given_first        the step number `near` is at place 0;  first_alone: and nowhere else
---  last_main_positive  there is a main-path step
+--   last_main_positive  there is a main-path step
 --
 -- Assumes nothing but the rules.
 use Prim.Native.Nat.{ℕ, zero, suc, ◌<◌, ◌≤◌}
@@ -17,7 +17,7 @@ use Rattle.std.proofs.Math.Bool.{or-false, and-true, and-false}
 use mathlib.Core.List.{List, [], ◌∷◌, ◌++◌, reverse_aux}
 use Rattle.std.proofs.Math.Dec.{eqb, eqb-zero-suc}
 use Rattle.meaning.specs.Logic.{neither}
-use Rattle.meaning.specs.Query.Laws.{Chain, c_nil, c_cons, path_chain, Starts, starts, path_some}
+use Rattle.meaning.proofs.Query.Laws.{Chain, c_nil, c_cons, path_chain, Starts, starts, path_some}
 use Rattle.meaning.specs.Query.{Step, Query, Steps, Numbered, main_if, main_path, last_of, last_main, admits}
 use Rattle.plan.specs.Order.{back_path, any_of, at}
 

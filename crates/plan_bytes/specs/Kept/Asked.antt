@@ -12,9 +12,9 @@ use Rattle.std.proofs.Common.{arith, sym, ◌∙◌, lt-ltb, le-ltb}
 use Rattle.std.proofs.Math.Path.{ap, ap₂}
 use Rattle.meaning.specs.Name.{star, passes}
 use Rattle.sets.specs.Set.{member, join, only_if, mask_of}
-use Rattle.sets.specs.Set.Of.{mask_of_agree}
+use Rattle.sets.proofs.Set.Of.{mask_of_agree}
 use Rattle.plan.specs.Asked.{Asking, quick, nobody, test_of, place_by}
-use Rattle.plan.specs.Asked.Laws.{quick_tests, quick_none, quick_one, quick_all}
+use Rattle.plan.proofs.Asked.Laws.{quick_tests, quick_none, quick_one, quick_all}
 use Rattle.plan.specs.Plan.{named}
 use Rattle.plan.specs.Planned.{bucket_count}
 use Rattle.words.specs.Rows.{rows_length, rows_at}

@@ -15,8 +15,8 @@ use Rattle.std.proofs.Math.Seq.{sets}
 use Rattle.plan.specs.declared.Plan as struct
 use Rattle.plan.specs.Plan.{Plan}
 use Rattle.sets.specs.Set.{member, meet, mask_of}
-use Rattle.sets.specs.Set.Of.{mask_of_under, mask_of_all, mask_of_cut}
-use Rattle.sets.specs.Collect.{one_shift}
+use Rattle.sets.proofs.Set.Of.{mask_of_under, mask_of_all, mask_of_cut}
+use Rattle.sets.proofs.Collect.{one_shift}
 use Rattle.plan.specs.Asked.{test_of}
 use Rattle.plan.specs.Planned.{size_of}
 use Rattle.words.specs.Words.{words, bytes_of, Bytes}

@@ -19,7 +19,7 @@ use Rattle.plan.specs.declared.Plan as struct
 use Rattle.plan.specs.Plan.{Plan}
 use Rattle.sets.specs.Table.{get_d_table_of}
 use Rattle.plan.specs.Asked.{stars_of, test_of, bucket, place_by, asking}
-use Rattle.plan.specs.Asked.Laws.{test_same, test_kept, bucket_most}
+use Rattle.plan.proofs.Asked.Laws.{test_same, test_kept, bucket_most}
 use Rattle.plan.specs.Planned.{size_of, zeros, filled, bucket_count, several_steps, columns}
 use Rattle.words.specs.Words.{words, bytes_of}
 use Rattle.words.specs.Words.Laws.{words_length, words_bytes, Spelt, bytes_spelt, first_byte, second_byte, third_byte, fourth_byte}

@@ -14,18 +14,18 @@ use Rattle.meaning.specs.Query.{Query, Steps, Numbered}
 use Rattle.query.specs.Rules.{most_steps, step_bytes, steps, step_of}
 use Rattle.query.specs.Answer.{admitted, answer_to}
 use Rattle.query.specs.Decode.{Bytes, decode_step, decode_from, decode}
-use Rattle.query.specs.Decode.Laws.{from_length, meant}
-use Rattle.sets.specs.Set.Of.{mask_of_under}
+use Rattle.query.proofs.Decode.Laws.{from_length, meant}
+use Rattle.sets.proofs.Set.Of.{mask_of_under}
 use Rattle.plan.specs.Every.{Every, e_nil, e_cons, every_all, every_append}
 use Rattle.plan.specs.Order.{order, mask}
 use Rattle.plan.specs.Places.{numbered}
-use Rattle.plan.specs.Places.Laws.{order_length, every_order}
-use Rattle.plan.specs.Places.Plan.{first_order}
+use Rattle.plan.proofs.Places.Laws.{order_length, every_order}
+use Rattle.plan.proofs.Places.Plan.{first_order}
 use Rattle.plan.specs.Plan.{Plan, plan}
-use Rattle.plan.specs.Plan.Laws.{plan_size}
+use Rattle.plan.proofs.Plan.Laws.{plan_size}
 use Rattle.plan.specs.Asked.{stars_of}
 use Rattle.plan.specs.Planned.{size_of, planned, zeros, filled, bucket_count, columns, plan_of}
-use Rattle.plan.specs.Planned.Laws.{planned_all, plan_hung}
+use Rattle.plan.proofs.Planned.Laws.{planned_all, plan_hung}
 use Rattle.words.specs.Words.{words, bytes_of}
 use Rattle.words.specs.Rows.{rows}
 use Rattle.plan_bytes.specs.Kept.{plan_room, kept_in, pair, four, slots, pairs, fours, packed_over, packed}

@@ -2,7 +2,7 @@
 --
 --   Given o bytes .. x d       d is what is owed where x is the first refusal that applies
 --   event_owed                 an event gives what is owed
---  event_answered, event_of_lem, event_written      so its result has the meaning's answer, leads to a session after the past then, and writes the nodes' records
+--   event_answered, event_of_lem, event_written      so its result has the meaning's answer, leads to a session after the past then, and writes the nodes' records
 --   room_long                  room that is not too small is long enough
 --
 -- Assumes nothing of the room but that the records in use are those that the last call left.
@@ -19,24 +19,24 @@ use Rattle.std.proofs.Math.ListN.{length, drop}
 use Rattle.choice.specs.When.{when_true, when_false, when_known, never}
 use Rattle.choice.specs.Count.{bool_byte_read}
 use Rattle.meaning.specs.Limits.{elements_needed, nodes_needed, output_needed}
-use Rattle.meaning.specs.Limits.Laws.{node_limit_is}
+use Rattle.meaning.proofs.Limits.Laws.{node_limit_is}
 use Rattle.meaning.specs.Refusals.{short_output, short_room, already_stopped, stops}
 use Rattle.meaning.specs.Query.{Query, admits}
 use Rattle.meaning.specs.Document.{Doc}
-use Rattle.meaning.specs.Demands.{counts_add_up}
+use Rattle.meaning.proofs.Demands.{counts_add_up}
 use Rattle.meaning.specs.Stream.{Event, document, Stream}
 use Rattle.meaning.specs.Record.{event_of}
 use Rattle.meaning.specs.Answer as meaning
 use Rattle.meaning.specs.Answer.{Lent, Call, Past, too_small, event_refusals, refusals, first_or, first, call_events, yield, answer_if, answer}
 use Rattle.meaning.specs.Answer.{after_if, after, handed_by}
-use Rattle.meaning.specs.Answer.Laws.{act_document, after_stream}
-use Rattle.meaning.specs.Answer.Bounds.{Bounded, after_bounded, handed_within}
+use Rattle.meaning.proofs.Answer.Laws.{act_document, after_stream}
+use Rattle.meaning.proofs.Answer.Bounds.{Bounded, after_bounded, handed_within}
 use Rattle.query.specs.Decode.{decode}
 use Rattle.plan.specs.Plan.{Plan}
 use Rattle.plan_bytes.specs.Kept.{kept_in}
 use Rattle.records.specs.Read.{shown}
 use Rattle.records.specs.Write.{buffer}
-use Rattle.records.specs.Write.Laws.{Nodes, nodes_in_records_of, buffer_none}
+use Rattle.records.proofs.Write.Laws.{Nodes, nodes_in_records_of, buffer_none}
 use Rattle.words.specs.Records.{laid}
 use Rattle.element.specs.Element as element
 use Rattle.element.specs.Element.{Elements, elements_in}
@@ -44,7 +44,7 @@ use Rattle.node.specs.Node as node
 use Rattle.node.specs.Node.{Queue, queue_in}
 use Rattle.numbers.specs.Numbers.{Numbers}
 use Rattle.step.specs.Step.{After, step}
-use Rattle.step.specs.Step.Left.{step_still}
+use Rattle.step.proofs.Step.Left.{step_still}
 use Rattle.stop.specs.Stop.{marked, guarded}
 use Rattle.stop.specs.Stop.Laws.{marked_same, guarded_stopped, guarded_going}
 use Rattle.right.specs.Used.{state_in, same_state}

@@ -23,7 +23,7 @@ use Rattle.meaning.specs.Answer as meaning
 use Rattle.meaning.specs.Answer.{Call, Past, too_small, answer, handed_by, handed_out}
 use Rattle.query.specs.Decode.{decode}
 use Rattle.records.specs.Write.{records_of, nodes_in}
-use Rattle.records.specs.Write.Laws.{length_records, records_append, length_nodes}
+use Rattle.records.proofs.Write.Laws.{length_records, records_append, length_nodes}
 use Rattle.feed.specs.Fed.{Came, Fed, none, one, and_then, fed}
 use Rattle.session.specs.declared.Session.{Session}
 use Rattle.session.specs.declared.Next.{Next}

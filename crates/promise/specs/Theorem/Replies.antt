@@ -22,27 +22,29 @@ use Rattle.choice.specs.Count.{bool_byte_le}
 use Rattle.meaning.specs.Limits.{elements_needed, nodes_needed, output_needed}
 use Rattle.meaning.specs.Logic.{is_false}
 use Rattle.meaning.specs.Refusals.{short_output, short_room, already_stopped, stops}
-use Rattle.meaning.specs.Refusals.Laws.{stops_exactly}
+use Rattle.meaning.proofs.Refusals.Laws.{stops_exactly}
 use Rattle.meaning.specs.Query.{Query}
 use Rattle.meaning.specs.Selection.{sure-reading}
 use Rattle.meaning.specs.Explicit.{Selected}
-use Rattle.meaning.specs.Explicit.Demands.{ListedBy, HeldBy, listed_exactly, held_exactly, ruled_out_exactly}
+use Rattle.meaning.specs.Explicit.Demands.{ListedBy, HeldBy}
+use Rattle.meaning.proofs.Explicit.Demands.{listed_exactly, held_exactly, ruled_out_exactly}
 use Rattle.meaning.specs.Standing.{listed, held, ruled_out_nodes}
-use Rattle.meaning.specs.Standing.Laws.{Rising}
-use Rattle.meaning.specs.Demands.{list_order, held_order, ruled_out_order, list_explicit, counts_add_up}
+use Rattle.meaning.proofs.Standing.Laws.{Rising}
+use Rattle.meaning.proofs.Demands.{list_order, held_order, ruled_out_order, list_explicit, counts_add_up}
 use Rattle.meaning.specs.Stream.{Event, document}
 use Rattle.meaning.specs.Answer as meaning
 use Rattle.meaning.specs.Answer.{Call, Past, going, too_small, answer, after, answers, after_all, handed_by, handed_out}
-use Rattle.meaning.specs.Answer.Laws.{finish_same, handed_listed}
-use Rattle.meaning.specs.Answer.Stop.{Stopping, stopped_exactly}
+use Rattle.meaning.proofs.Answer.Laws.{finish_same, handed_listed}
+use Rattle.meaning.specs.Answer.Stop.{Stopping}
+use Rattle.meaning.proofs.Answer.Stop.{stopped_exactly}
 use Rattle.query.specs.Answer as checked
 use Rattle.query.specs.Answer.{Owed}
-use Rattle.query.specs.Answer.Laws.{owed_given}
+use Rattle.query.proofs.Answer.Laws.{owed_given}
 use Rattle.query.specs.Decode.{decode}
 use Rattle.plan.specs.Planned.{plan_of}
 use Rattle.plan_bytes.specs.Kept.{kept_in}
 use Rattle.records.specs.Write.{records_of, nodes_in, buffer}
-use Rattle.records.specs.Write.Laws.{length_records, records_append, length_nodes}
+use Rattle.records.proofs.Write.Laws.{length_records, records_append, length_nodes}
 use Rattle.numbers.specs.Numbers.{Said}
 use Rattle.feed.specs.Fed.{Came}
 use Rattle.feed.specs.Steps.{Seat, seat, step_at, Whole}

@@ -14,8 +14,9 @@ use Rattle.meaning.specs.Standing.{listed, held}
 use Rattle.meaning.specs.Stream.{Event, document}
 use Rattle.meaning.specs.Answer as meaning
 use Rattle.meaning.specs.Answer.{Call, Past, going, too_small, answer, after_all}
-use Rattle.meaning.specs.Answer.Laws.{after_append}
-use Rattle.meaning.specs.Answer.Stop.{TurnedAway, stopped_answer, stopped_same, stopped_for_ever, stopped_answers}
+use Rattle.meaning.proofs.Answer.Laws.{after_append}
+use Rattle.meaning.specs.Answer.Stop.{TurnedAway}
+use Rattle.meaning.proofs.Answer.Stop.{stopped_answer, stopped_same, stopped_for_ever, stopped_answers}
 use Rattle.query.specs.Decode.{decode}
 use Rattle.session.specs.declared.Session.{Session}
 use Rattle.session.specs.declared.Answer.{Answer}

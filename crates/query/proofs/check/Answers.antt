@@ -1,6 +1,6 @@
 -- `check` answers as `answer_to` does: the length first, then the steps. Assumes nothing.
 use mathlib.Core.Path.{sym, ◌∙◌}
-use Rattle.query.specs.Rules.Laws.{right_length}
+use Rattle.query.proofs.Rules.Laws.{right_length}
 use Rattle.query.specs.Answer.{said, answer_to, if_wrong}
 use Rattle.query.proofs.check.Goals as goal
 

@@ -19,7 +19,7 @@ pub returns-then-reason-ne0 : goal.returns-then-reason-ne0
 unfolding said
 returns-then-reason-ne0 c =
     let here = c.loop-at in
-    turn_stops _ _ _ _ _ here.invariant.0 here.invariant.2 c.reason-at.ensures here.invariant.3 (omega arith) (omega arith)
+    turn_stops _ _ _ _ _ here.invariant.0 here.invariant.2 c.reason_at-reason.ensures here.invariant.3 (omega arith) (omega arith)
 
 pub loop-at-preserved : goal.loop-at-preserved
 loop-at-preserved c =

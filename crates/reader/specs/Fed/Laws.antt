@@ -14,7 +14,7 @@ use Rattle.choice.specs.When.{when, when_true, when_false, never}
 use Rattle.chars.specs.Table.{marks_table}
 use Rattle.modes.specs.declared.Reader.{Reader}
 use Rattle.walk.specs.Turn.{Turned, turned}
-use Rattle.walk.specs.Within.{turned_within, turned_on}
+use Rattle.walk.proofs.Within.{turned_within, turned_on}
 use Rattle.emit.specs.Emit.{Emitted, emitted}
 use Rattle.reader.specs.Fed.{more_to_read, Going, gone_on, advanced_by, advanced, goes_on, read_for, begun_with}
 

@@ -28,7 +28,7 @@ use Rattle.reading.specs.Refusing.{Stands, never_both, refused_reads, refused_st
 use Rattle.reading.specs.Streams as streams
 use Rattle.reading.specs.Table.{one_number, table, misplaced_is}
 use Rattle.listed.specs.Lines.{lines_of}
-use Rattle.names.specs.Built.{build_finds}
+use Rattle.names.proofs.Built.{build_finds}
 use Rattle.names.specs.First.{first_place}
 use Rattle.names.specs.Number.{number_of}
 use Rattle.names.specs.Number.Laws.{number_within}
@@ -40,7 +40,7 @@ use Rattle.reader.specs.declared.Finished.{Finished}
 use Rattle.reader.specs.Feed.{Came, too_scant, finish_answer, FeedGives, FinishGives, feed_scant, feed_stopped}
 use Rattle.text_right.specs.Stands.{state_of}
 use Rattle.text_right.specs.Sound.{Sound}
-use Rattle.text_right.specs.Quiet.{Bytes}
+use Rattle.text_right.proofs.Quiet.{Bytes}
 use Rattle.reader_right.specs.Records.{records_of, records_in, records_more, same_records}
 use Rattle.reader_right.specs.Wrote.{wrote_first, wrote_rest}
 use Rattle.reader_right.specs.Counted.{Counted}

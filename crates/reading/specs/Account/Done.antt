@@ -10,7 +10,7 @@ use Rattle.std.proofs.Common.{sym, ap, ◌∙◌, subst, append_assoc, append-ni
 use Rattle.std.proofs.Math.Option.{none}
 use Rattle.xml.specs.Class.{Rows, OneOf, word, words, waiting, all_apart, apart_from, apart, disjoint, out_of, disjoint_ranges, all_spelled, spelled}
 use Rattle.xml.specs.Class.{some_byte, some_row, filled}
-use Rattle.xml.specs.Class.Laws.{one_word, word_waiting}
+use Rattle.xml.proofs.Class.Laws.{one_word, word_waiting}
 use Rattle.xml.specs.Chars.{quote}
 use Rattle.xml.specs.Refused
 use Rattle.xml.specs.Grammar

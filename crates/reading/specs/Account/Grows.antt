@@ -8,7 +8,7 @@
 use Rattle.std.specs.Prelude.{ℕ, ◌≡◌, refl, Bool, List, [], ◌∷◌, ◌++◌, T, length}
 use Rattle.std.proofs.Common.{subst, append_assoc, append-nil}
 use Rattle.xml.specs.Class.{Class, only, in_class, In, disjoint, out_of, disjoint_ranges}
-use Rattle.xml.specs.Class.Laws.{not_both}
+use Rattle.xml.proofs.Class.Laws.{not_both}
 use Rattle.xml.specs.Chars.{blank, name_char, unquoted, quote}
 use Rattle.xml.specs.Grammar
 use Rattle.xml.specs.Grammar.{Limits, Ev, opens, closes, remark, Br, b0, Each, Char, S, s, Eq, eq, Reference, Comment, Run, Value, quoted, Name, name}

@@ -13,7 +13,7 @@ use Rattle.std.proofs.Math.Bool.{true, false}
 use Rattle.std.proofs.Math.Option.{Option, none, some}
 use Rattle.choice.specs.When.{when}
 use Rattle.xml.specs.Class.{Rows, in_class, In, OneOf, this, Spells, derive, sound, waiting}
-use Rattle.xml.specs.Class.Laws.{sound_waiting, waiting_sound}
+use Rattle.xml.proofs.Class.Laws.{sound_waiting, waiting_sound}
 use Rattle.xml.specs.Chars.{blank, name_start, quote}
 use Rattle.xml.specs.Refused
 use Rattle.xml.specs.Grammar

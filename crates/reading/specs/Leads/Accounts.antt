@@ -14,7 +14,7 @@ use Rattle.std.proofs.Math.Option.{Option}
 use mathlib.Core.List.{List, [], ◌∷◌, ◌++◌, append_assoc}
 use Rattle.choice.specs.When.{when}
 use Rattle.xml.specs.Class.{Rows, in_class, word, words, disjoint, disjoint_ranges, out_of, waiting}
-use Rattle.xml.specs.Class.Laws.{some_spelling, waiting_sound}
+use Rattle.xml.proofs.Class.Laws.{some_spelling, waiting_sound}
 use Rattle.xml.specs.Refused.{misplaced}
 use Rattle.xml.specs.Grammar.{Limits, Ev, Br, b0, Part, Mark}
 use Rattle.xml.specs.Grammar

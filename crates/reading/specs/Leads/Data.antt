@@ -11,7 +11,7 @@ use Rattle.std.proofs.Math.Path.{refl}
 use Rattle.std.proofs.Math.Bool.{true, false}
 use mathlib.Core.List.{List, [], ◌∷◌, ◌++◌}
 use Rattle.xml.specs.Class.{in_class, In, this, word, disjoint, disjoint_ranges, out_of, apart_from, all_apart, filled}
-use Rattle.xml.specs.Class.Laws.{word_spells}
+use Rattle.xml.proofs.Class.Laws.{word_spells}
 use Rattle.xml.specs.Chars.{blank, utf8, no_dash, plain, unquoted, quote}
 use Rattle.xml.specs.Refused.{misplaced, not_char}
 use Rattle.xml.specs.Grammar.{Limits, Ev, Br, b0, Each, S, s, Remarked, Comment, comment, Run, Value, AttValue, quoted}

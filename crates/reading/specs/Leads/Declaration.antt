@@ -1,6 +1,6 @@
 -- The XML declaration is read.
 --
---  told_as o           the state behind '<?xml' or behind a part's value
+--   told_as o           the state behind '<?xml' or behind a part's value
 --   told_leads         the declaration as far as a part;  piece_leads: with blanks behind it
 --   part_leads         and as far as the next part's name;  equals_leads: and its '=';  quote_leads: and its opening quote
 --   decl_end           and as far as its '?';  decl_leads: the whole declaration
@@ -15,7 +15,7 @@ use mathlib.Core.List.{List, [], ◌∷◌, ◌++◌, append_assoc}
 use Rattle.std.proofs.Math.Dec.{T}
 use Rattle.choice.specs.When.{when}
 use Rattle.xml.specs.Class.{in_class, In, OneOf, word, disjoint, disjoint_ranges, out_of, all_apart, waiting}
-use Rattle.xml.specs.Class.Laws.{and_l, waiting_sound, waiting_filled}
+use Rattle.xml.proofs.Class.Laws.{and_l, waiting_sound, waiting_filled}
 use Rattle.xml.specs.Chars.{blank, quote}
 use Rattle.xml.specs.Refused.{misplaced, instruction}
 use Rattle.xml.specs.Grammar.{Limits, Part, version, encoding, standalone, part_name, part_values, may_follow, Each, S, Eq, eq, Told, begun, part, b0}

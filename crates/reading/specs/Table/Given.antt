@@ -13,7 +13,7 @@ use mathlib.Core.List.{List, [], ◌∷◌, ◌++◌, append_assoc, append-nil}
 use Rattle.std.proofs.Math.Dec.{T_not}
 use Rattle.choice.specs.When.{when, when_false}
 use Rattle.xml.specs.Class.{Class, Rows, in_class, In, this, that, place, end, derive, disjoint, out_of, disjoint_ranges}
-use Rattle.xml.specs.Class.Laws.{T_false, waiting_sound}
+use Rattle.xml.proofs.Class.Laws.{T_false, waiting_sound}
 use Rattle.xml.specs.Chars.{blank, name_start, name_char, beyond, utf8}
 use Rattle.xml.specs.Refused
 use Rattle.xml.specs.Grammar.{Limits, Ev, entities, Br, b0, among, Mark}

@@ -1,5 +1,5 @@
 -- `put_node` writes the four bytes of a list record, and no other. Assumes nothing.
-use Rattle.records.specs.Write.Laws.{sets_four}
+use Rattle.records.proofs.Write.Laws.{sets_four}
 use lib.ListN.{length-set}
 use native.Mathlib.Omega.{arith}
 use Rattle.records.proofs.put_node.Goals as goal

@@ -4,7 +4,7 @@
 --   steps_alike                         an event on it is a step
 --   run_few, run_short, run_small       no whole record; refusal 1 would come; refusal 15
 --   run_parts                           any other block, by the parts of the room that were lent on
---  run_within_lem                          a block on the room that is needed, by what feed gives
+--   run_within_lem                          a block on the room that is needed, by what feed gives
 --   run_one                             two results that the promise allows are equal, and so is all that was lent
 --
 -- What is large is given explicitly. Assumes nothing.

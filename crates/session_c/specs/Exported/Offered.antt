@@ -1,7 +1,7 @@
 -- That an event on the session's bytes is one on the session in them. The numbers there may say by any value whether the document element has been closed and
 -- whether the session is stopped, a session says it by tests: an event asks no more (crate offer, Offer.Alike).
 --
---  event_number refusal listed      the answer of an event that came to this, as a number
+--   event_number refusal listed      the answer of an event that came to this, as a number
 --   takes_parts                     what `offer` gives on the bytes is what is owed of the session's event
 --
 -- What is large is given explicitly. Assumes nothing.

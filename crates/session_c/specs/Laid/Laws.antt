@@ -1,6 +1,6 @@
 -- That a session is read from its bytes, and laid in them, as it stands there.
 --
---  plan_room_lem, room_is, counts_room_lem      how many bytes it keeps of its query, it takes in all, and two counts take, as numbers
+--   plan_room_lem, room_is, counts_room_lem      how many bytes it keeps of its query, it takes in all, and two counts take, as numbers
 --   six, six_words       the numbers as a list, and that these are the words of their bytes
 --   numbers_laid         bytes with these numbers are those of the numbers
 --   of_parts             a session by what it keeps of its query and its numbers one by one

@@ -6,7 +6,7 @@ use mathlib.Core.Path.{◌≡◌, refl, sym, ap, ◌∙◌}
 use lib.ListN.{length, get_or, drop}
 use Rattle.slots.specs.Slots.Laws.{room_is}
 use Rattle.slots.specs.Copied.{agreed}
-use Rattle.slots.specs.Copied.Laws.{agreed_end, agreed_whole, agreed_other, agreed_on}
+use Rattle.slots.proofs.Copied.Laws.{agreed_end, agreed_whole, agreed_other, agreed_on}
 use Rattle.slots.proofs.agree.Statement.{statement}
 use Rattle.slots.proofs.agree.Tie as tie
 

@@ -7,7 +7,7 @@ use lib.ListN.{length, get_or, set, drop, length-set}
 use Rattle.chars.specs.Marks.Laws.{unmarked, is_marked}
 use Rattle.slots.specs.Slots.Laws.{room_is}
 use Rattle.slots.specs.Copied.{copied, name_mark}
-use Rattle.slots.specs.Copied.Laws.{copied_end, copied_other, copied_full, copied_on}
+use Rattle.slots.proofs.Copied.Laws.{copied_end, copied_other, copied_full, copied_on}
 use Rattle.slots.proofs.copy.Statement.{statement}
 use Rattle.slots.proofs.copy.Tie as tie
 

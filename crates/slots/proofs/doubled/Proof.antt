@@ -4,7 +4,7 @@ use borrow.Author.Rules.{rules}
 use native.Mathlib.Omega.{arith}
 use mathlib.Core.Path.{◌≡◌, sym, ◌∙◌}
 use Rattle.slots.specs.Copied.{doubled_from, doubled_in}
-use Rattle.slots.specs.Copied.Laws.{doubled_begin, doubled_done, doubled_here, doubled_next}
+use Rattle.slots.proofs.Copied.Laws.{doubled_begin, doubled_done, doubled_here, doubled_next}
 use Rattle.slots.proofs.doubled.Statement.{statement}
 use Rattle.slots.proofs.doubled.Tie as tie
 

@@ -2,7 +2,7 @@
 use borrow.Author.Rules.{rules}
 use native.Mathlib.Omega.{arith}
 use Rattle.slots.specs.Slots.Laws.{room_is}
-use Rattle.slots.specs.Copied.Laws.{name_length_lem, name_bytes_lem}
+use Rattle.slots.proofs.Copied.Laws.{name_length_lem, name_bytes_lem}
 use Rattle.slots.proofs.is_name.Statement.{statement}
 use Rattle.slots.proofs.is_name.Tie as tie
 

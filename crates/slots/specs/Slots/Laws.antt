@@ -13,7 +13,7 @@ use Rattle.std.proofs.Math.Path.{sym, ap}
 use Rattle.std.proofs.Math.ListN.{get_or}
 use Rattle.choice.specs.When.{when_true, when_false}
 use Rattle.xml.specs.Bounds.{name_limit}
-use Rattle.xml.specs.Bounds.Laws.{name_limit_is}
+use Rattle.xml.proofs.Bounds.Laws.{name_limit_is}
 use Rattle.slots.specs.Slots.{room_needed, name_bytes, base_of, length_in, name_in, number_in}
 
 pub room_is : room_needed ≡ 18_496

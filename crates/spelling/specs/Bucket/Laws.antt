@@ -1,6 +1,6 @@
 -- The bucket of a spelling, turn by turn.
 --
---  mixed_below       what is mixed is below mix_limit
+--   mixed_below       what is mixed is below mix_limit
 --   bucket_below      a bucket is one of the 65,536;  buckets_is: that many there are
 --   mix_goes_on       one turn;  mix_done: no turn is left
 --   bucket_whole      at the end of the turns the bucket is made;  bucket_few: a word of under four bytes takes none

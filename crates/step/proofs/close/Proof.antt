@@ -2,12 +2,12 @@
 use borrow.Author.Rules.{rules}
 use native.Mathlib.Omega.{arith}
 use mathlib.Core.Path.{◌∙◌}
-use Rattle.meaning.specs.Limits.Laws.{held_is, output_is}
+use Rattle.meaning.proofs.Limits.Laws.{held_is, output_is}
 use Rattle.numbers.specs.Numbers.{numbers_in}
 use Rattle.element.specs.Element.{elements_in}
 use Rattle.node.specs.Node.{queue_in}
 use Rattle.plan_bytes.specs.Kept.{kept_in}
-use Rattle.step.specs.Step.Laws.{refused_as, zero_few, close_refused, close_done}
+use Rattle.step.proofs.Step.Laws.{refused_as, zero_few, close_refused, close_done}
 use Rattle.step.proofs.close.Statement.{statement}
 use Rattle.step.proofs.close.Tie as tie
 

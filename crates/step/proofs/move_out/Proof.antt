@@ -1,8 +1,8 @@
 -- What each call answered, put together. Assumes nothing.
 use borrow.Author.Rules.{rules}
 use native.Mathlib.Omega.{arith}
-use Rattle.meaning.specs.Limits.Laws.{depth_is}
-use Rattle.step.specs.Step.Laws.{move_told}
+use Rattle.meaning.proofs.Limits.Laws.{depth_is}
+use Rattle.step.proofs.Step.Laws.{move_told}
 use Rattle.step.proofs.move_out.Statement.{statement}
 use Rattle.step.proofs.move_out.Tie as tie
 

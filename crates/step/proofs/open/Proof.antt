@@ -3,14 +3,14 @@ use borrow.Author.Rules.{rules}
 use native.Mathlib.Omega.{arith}
 use mathlib.Core.Path.{refl, ap, ◌∙◌}
 use Rattle.choice.specs.Count.{bool_byte_le}
-use Rattle.meaning.specs.Limits.Laws.{depth_is, held_is, node_limit_is, output_is}
+use Rattle.meaning.proofs.Limits.Laws.{depth_is, held_is, node_limit_is, output_is}
 use Rattle.numbers.specs.Numbers.{numbers_in}
 use Rattle.element.specs.Element.{elements_in}
 use Rattle.node.specs.Node.{queue_in}
 use Prim.Native.Nat.{◌+◌}
 use Rattle.plan_bytes.specs.Kept.{kept_in}
 use Rattle.opening.specs.Opening.Laws.{has_place}
-use Rattle.step.specs.Step.Laws.{refused_as, zero_few, open_refused, open_full, open_done}
+use Rattle.step.proofs.Step.Laws.{refused_as, zero_few, open_refused, open_full, open_done}
 use Rattle.step.proofs.open.Statement.{statement}
 use Rattle.step.proofs.open.Tie as tie
 

@@ -6,7 +6,7 @@ use Rattle.element.specs.Element.{elements_in}
 use Rattle.node.specs.Node.{queue_in}
 use Rattle.plan_bytes.specs.Kept.{kept_in}
 use Rattle.step.specs.Step.{step}
-use Rattle.step.specs.Step.Laws.{refused_as, zero_few, step_read_as}
+use Rattle.step.proofs.Step.Laws.{refused_as, zero_few, step_read_as}
 use Rattle.step.proofs.step.Statement.{statement}
 use Rattle.step.proofs.step.Tie as tie
 

@@ -1,7 +1,7 @@
 -- Test by test as its model. Assumes nothing.
 use borrow.Author.Rules.{rules}
 use Rattle.tags.specs.Tag.{att_tick}
-use Rattle.tags.specs.Found.{found}
+use Rattle.tags.proofs.Found.{found}
 use Rattle.choice.specs.Tests.{tests}
 use Rattle.tags.proofs.attribute.Statement.{statement}
 use Rattle.tags.proofs.attribute.Tie as tie

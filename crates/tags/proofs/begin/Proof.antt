@@ -3,7 +3,7 @@ use borrow.Author.Rules.{rules}
 use Rattle.tags.specs.Markup.{begun}
 use Rattle.choice.specs.Tests.{tests}
 use Rattle.chars.specs.Said.{said}
-use Rattle.tags.specs.Found.{found}
+use Rattle.tags.proofs.Found.{found}
 use Rattle.tags.proofs.begin.Statement.{statement}
 use Rattle.tags.proofs.begin.Tie as tie
 

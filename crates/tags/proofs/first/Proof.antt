@@ -3,7 +3,7 @@ use borrow.Author.Rules.{rules}
 use Rattle.tags.specs.Markup.{first_tick}
 use Rattle.choice.specs.Tests.{tests}
 use Rattle.chars.specs.Said.{said}
-use Rattle.tags.specs.Found.{found}
+use Rattle.tags.proofs.Found.{found}
 use Rattle.tags.proofs.first.Statement.{statement}
 use Rattle.tags.proofs.first.Tie as tie
 

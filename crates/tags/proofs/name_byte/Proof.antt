@@ -1,7 +1,7 @@
 -- Test by test as its model. Assumes nothing.
 use borrow.Author.Rules.{rules}
 use Rattle.tags.specs.Tag.{name_byte}
-use Rattle.tags.specs.Found.{found}
+use Rattle.tags.proofs.Found.{found}
 use Rattle.choice.specs.Tests.{tests}
 use Rattle.tags.proofs.name_byte.Statement.{statement}
 use Rattle.tags.proofs.name_byte.Tie as tie

@@ -3,7 +3,7 @@ use borrow.Author.Rules.{rules}
 use Rattle.tags.specs.Markup.{slashed_tick}
 use Rattle.choice.specs.Tests.{tests}
 use Rattle.chars.specs.Said.{said}
-use Rattle.tags.specs.Found.{found}
+use Rattle.tags.proofs.Found.{found}
 use Rattle.tags.proofs.slashed.Statement.{statement}
 use Rattle.tags.proofs.slashed.Tie as tie
 

@@ -1,6 +1,6 @@
 -- What was read and written, put together. Assumes nothing.
 use Rattle.std.proofs.Common.{arith, rules}
-use Rattle.meaning.specs.Limits.Laws.{depth_is, node_limit_is}
+use Rattle.meaning.proofs.Limits.Laws.{depth_is, node_limit_is}
 use Rattle.tally.proofs.Counts.{count_open}
 use Rattle.tally.proofs.count_open.Statement.{statement}
 use Rattle.tally.proofs.count_open.Tie as tie

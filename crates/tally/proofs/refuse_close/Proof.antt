@@ -3,7 +3,7 @@ use Rattle.std.proofs.Common.{refl, ◌∙◌, arith, rules}
 use Rattle.choice.specs.When.{when_yes, when_no}
 use Rattle.choice.specs.Count.{positive}
 use Rattle.meaning.specs.Limits.{depth_limit, held_limit}
-use Rattle.meaning.specs.Limits.Laws.{depth_is, held_is}
+use Rattle.meaning.proofs.Limits.Laws.{depth_is, held_is}
 use Rattle.element.specs.Element.{elements_in}
 use Rattle.numbers.specs.Numbers.{numbers_in}
 use Rattle.tally.specs.Tally.{refuse_close}

@@ -2,7 +2,7 @@
 use Rattle.std.proofs.Common.{refl, arith, rules}
 use Rattle.choice.specs.When.{when_yes, when_no}
 use Rattle.meaning.specs.Limits.{node_limit}
-use Rattle.meaning.specs.Limits.Laws.{depth_is, held_is, node_limit_is}
+use Rattle.meaning.proofs.Limits.Laws.{depth_is, held_is, node_limit_is}
 use Rattle.tally.specs.Tally.{refuse_open}
 use Rattle.tally.proofs.Tests.{ended_yes, ended_no, at_least, less, past, within}
 use Rattle.tally.proofs.refuse_open.Statement.{statement}

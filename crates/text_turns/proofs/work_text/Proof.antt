@@ -4,8 +4,8 @@ use native.Mathlib.Omega.{arith}
 use mathlib.Core.Path.{◌≡◌, refl, sym, ◌∙◌}
 use lib.ListN.{length}
 use borrow.Author.Rules.{rules}
-use Rattle.meaning.specs.Limits.Laws.{output_is}
-use Rattle.meaning.specs.Answer.Laws.{not_small}
+use Rattle.meaning.proofs.Limits.Laws.{output_is}
+use Rattle.meaning.proofs.Answer.Laws.{not_small}
 use Rattle.slots.specs.Slots.Laws.{room_is}
 use Rattle.turns.specs.Progress.Laws.{progress_few}
 use Rattle.text_turns.specs.Stand.{more_is, done_is}

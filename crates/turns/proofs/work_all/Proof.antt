@@ -6,7 +6,7 @@ use mathlib.Core.Path.{◌≡◌, refl, sym, ◌∙◌}
 use mathlib.Core.List.{List}
 use lib.ListN.{length}
 use borrow.Author.Rules.{rules}
-use Rattle.meaning.specs.Answer.Laws.{not_small}
+use Rattle.meaning.proofs.Answer.Laws.{not_small}
 use Rattle.reads.specs.State.{UnreadWithin}
 use Rattle.turns.specs.Turns.{BegunFor, TurnsSoFar}
 use Rattle.turns.specs.Turns.Laws.{begun_so_far, turn_so_far, turn_within, measure, turn_less, so_far_few, so_far_streamed}

@@ -3,7 +3,7 @@
 --   Enough l                 the room of l is not too small
 --   BlockProgress b es bs n out f     f is what the first n records of bs, offered one after the other with the buffer out, must come to
 --   fed_progress             what a block of events comes to (crate session, Run) on a session and room that calls reach
---  block_fed l bs out        the block of the whole records of bs
+--   block_fed l bs out        the block of the whole records of bs
 --   then_fed                 TWO BLOCKS ONE AFTER THE OTHER ARE ONE STREAM: what was offered so far, and then a block of what is left
 --   fed_fed                  a block, and then a block of what it left, each with a buffer of its own
 --
@@ -18,20 +18,20 @@ use mir.Val.{bool_byte}
 use Rattle.std.proofs.Math.ListN.{length, length-drop}
 use Rattle.choice.specs.When.{when, when_true, when_false, when_known}
 use Rattle.meaning.specs.Limits.{output_needed}
-use Rattle.meaning.specs.Limits.Laws.{node_limit_is}
+use Rattle.meaning.proofs.Limits.Laws.{node_limit_is}
 use Rattle.meaning.specs.Refusals.{stops}
 use Rattle.meaning.specs.Stream as Stream
 use Rattle.meaning.specs.Stream.{document}
 use Rattle.meaning.specs.Standing.{listed}
 use Rattle.meaning.specs.Answer as meaning
 use Rattle.meaning.specs.Answer.{Call, Past, going, too_small, refusals, first, yield, answer_if, answer, call_events, after_if, after, handed_by}
-use Rattle.meaning.specs.Answer.Laws.{room_enough, call_listed}
-use Rattle.meaning.specs.Answer.Bounds.{after_bounded, handed_within}
+use Rattle.meaning.proofs.Answer.Laws.{room_enough, call_listed}
+use Rattle.meaning.proofs.Answer.Bounds.{after_bounded, handed_within}
 use Rattle.meaning.specs.Offering.{offer, offering}
-use Rattle.meaning.specs.Offering.Laws.{one_record, refused_record}
+use Rattle.meaning.proofs.Offering.Laws.{one_record, refused_record}
 use Rattle.query.specs.Decode.{decode}
 use Rattle.records.specs.Write.{records_of, nodes_in, buffer}
-use Rattle.records.specs.Write.Laws.{length_records, Nodes, nodes_in_append, length_nodes}
+use Rattle.records.proofs.Write.Laws.{length_records, Nodes, nodes_in_append, length_nodes}
 use Rattle.feed.specs.Fed.{Came, Fed, none as none-fed, one, and_then, fed}
 use Rattle.session.specs.declared.Session.{Session}
 use Rattle.session.specs.declared.Answer.{Answer}

@@ -19,7 +19,7 @@ use Rattle.meaning.specs.Stream.{Event, document}
 use Rattle.meaning.specs.Standing.{listed}
 use Rattle.meaning.specs.Answer.{going}
 use Rattle.meaning.specs.Offering.{offering, offering_all}
-use Rattle.meaning.specs.Offering.Laws.{offering_then, offering_refused, offering_more, offering_short, length_offered, most_events}
+use Rattle.meaning.proofs.Offering.Laws.{offering_then, offering_refused, offering_more, offering_short, length_offered, most_events}
 use Rattle.query.specs.Decode.{decode}
 use Rattle.session.specs.Run.{Housed}
 use Rattle.promise.specs.Promise.{Of}

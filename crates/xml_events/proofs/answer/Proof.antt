@@ -2,8 +2,8 @@
 use native.Mathlib.Omega.{arith}
 use mathlib.Core.Logic.{inl}
 use mathlib.Core.Path.{refl}
-use Rattle.chains.specs.Index.Room.{index_words_is}
-use Rattle.names.specs.Built.{build_length}
+use Rattle.chains.proofs.Index.Room.{index_words_is}
+use Rattle.names.proofs.Built.{build_length}
 use Rattle.intake.specs.Names.{names_read}
 use Rattle.xml_events.specs.Program.Laws.{list_lined, names_lined, answered_by}
 use borrow.Author.Rules.{rules}

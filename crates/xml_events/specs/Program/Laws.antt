@@ -21,7 +21,7 @@ use Rattle.xml.specs.Numbered.{numbered}
 use Rattle.listed.specs.Listed.{list_answer}
 use Rattle.listed.specs.declared.Listing.{Listing}
 use Rattle.names.specs.Answer.{BuildGives}
-use Rattle.names.specs.Built.{build_finds, list_refused}
+use Rattle.names.proofs.Built.{build_finds, list_refused}
 use Rattle.names.specs.Number.{number_of}
 use Rattle.chains.specs.Index.{index_words}
 use Rattle.slots.specs.Slots.{room_needed}

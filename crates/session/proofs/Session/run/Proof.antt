@@ -3,7 +3,7 @@ use borrow.Author.Rules.{rules}
 use native.Mathlib.Omega.{arith}
 use mathlib.Core.Path.{sym, ◌∙◌}
 use lib.Seq.{length-take-le}
-use Rattle.meaning.specs.Limits.Laws.{output_is, elements_is, nodes_is}
+use Rattle.meaning.proofs.Limits.Laws.{output_is, elements_is, nodes_is}
 use Rattle.session.specs.Run.Laws.{run_few, run_short, run_small, run_parts}
 use Rattle.session.proofs.Session.run.Statement.{statement}
 use Rattle.session.proofs.Session.run.Tie as tie

@@ -1,0 +1,2 @@
+-- What is shown of specs/Need.
+pub mod Laws

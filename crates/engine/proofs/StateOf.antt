@@ -1,0 +1,5 @@
+-- What is shown of specs/StateOf.
+pub mod Frames
+pub mod Places
+pub mod Standings
+pub mod Theorem

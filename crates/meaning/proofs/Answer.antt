@@ -1,0 +1,5 @@
+-- What is shown of specs/Answer.
+pub mod Bounds
+pub mod Exactly
+pub mod Laws
+pub mod Stop

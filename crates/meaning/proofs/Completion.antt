@@ -1,0 +1,2 @@
+-- What is shown of specs/Completion.
+pub mod Laws

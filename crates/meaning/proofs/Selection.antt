@@ -1,0 +1,3 @@
+-- What is shown of specs/Selection.
+pub mod Examples
+pub mod Laws

@@ -1,0 +1,3 @@
+-- What is shown of specs/Standing.
+pub mod Settling
+pub mod Laws

@@ -1,0 +1,2 @@
+-- What is shown of specs/Plan.
+pub mod Laws

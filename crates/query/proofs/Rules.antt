@@ -1,0 +1,3 @@
+-- What is shown of specs/Rules.
+pub mod Laws
+pub mod Nearest

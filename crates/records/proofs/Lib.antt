@@ -1,0 +1,2 @@
+-- The proofs of crate records.
+pub mod Write

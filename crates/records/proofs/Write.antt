@@ -1,0 +1,2 @@
+-- What is shown of specs/Write.
+pub mod Laws

@@ -1,0 +1,3 @@
+-- The proofs of crate sets.
+pub mod Collect
+pub mod Set

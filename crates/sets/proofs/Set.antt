@@ -1,0 +1,5 @@
+-- What is shown of specs/Set.
+pub mod Algebra
+pub mod Laws
+pub mod Of
+pub mod Order

@@ -1,0 +1,2 @@
+-- The proofs of crate slots.
+pub mod Copied

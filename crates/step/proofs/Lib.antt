@@ -1,0 +1,2 @@
+-- The proofs of crate step.
+pub mod Step

@@ -1,0 +1,23 @@
+-- The proofs of crate text_right.
+pub mod Below
+pub mod Content
+pub mod Doubled
+pub mod Ends
+pub mod Entities
+pub mod Forms
+pub mod Frames
+pub mod Led
+pub mod Loops
+pub mod Markup
+pub mod Matched
+pub mod Names
+pub mod Numbered
+pub mod Opening
+pub mod Parts
+pub mod Placed
+pub mod Quiet
+pub mod Quoted
+pub mod Right
+pub mod Turned
+pub mod Values
+pub mod Walked

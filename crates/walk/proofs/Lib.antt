@@ -1,0 +1,2 @@
+-- The proofs of crate walk.
+pub mod Within
