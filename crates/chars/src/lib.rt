@@ -1,4 +1,6 @@
 // The bytes of XML text: what each may be, how a character of several bytes goes on, and how an entity does.
+#![tactic(auto)]
+
 ghost use Rattle.std.specs.Prelude.{◌≡◌, ◌+◌, ◌≤◌, ◌<◌, length, drop};
 ghost use Rattle.chars.specs.Marks.{marked, span};
 ghost use Rattle.chars.specs.Same.{same_bytes};

@@ -1,4 +1,6 @@
 // One byte of character data, of a comment, of an entity or of a character of several bytes: the reader after it.
+#![tactic(auto)]
+
 ghost use Rattle.std.specs.Prelude.{◌≡◌};
 ghost use Rattle.content.specs.Text.{wide_tick, char_tick, data_tick, bang_tick, note_tick, remarked_tick, entity_tick, amper_tick};
 

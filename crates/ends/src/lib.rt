@@ -1,4 +1,6 @@
 // One byte of an end tag, or the '>' of an empty one: the reader after it.
+#![tactic(auto)]
+
 ghost use Rattle.std.specs.Prelude.{◌≡◌, length};
 ghost use Rattle.slots.specs.Slots.{room_needed};
 ghost use Rattle.ends.specs.Ends.{emptied_tick, closed, ended_tick, whole_tick, end_tick};

@@ -1,4 +1,6 @@
 // The list of names and the text of a catalogue as they come: the file of names, one read more of the text, and the events of what has come.
+#![tactic(auto)]
+
 ghost use Rattle.std.specs.Prelude.{◌≡◌, ◌+◌, ◌≤◌, ◌<◌, length};
 ghost use Rattle.io.specs.Counts.{IsPrefixLen};
 ghost use Rattle.intake.specs.Names.{NamesGiven};

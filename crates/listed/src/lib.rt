@@ -1,4 +1,6 @@
 // The check of a list of names: which bytes are a list, and with which refusal and line the others are refused.
+#![tactic(auto)]
+
 ghost use Rattle.std.specs.Prelude.{◌≡◌, ◌+◌, ◌≤◌, length, drop};
 ghost use Rattle.xml.specs.Class.{in_class, in_range, to};
 ghost use Rattle.xml.specs.Chars.{name_start, name_char};

@@ -1,9 +1,11 @@
 // Where the reader stands in a text, in small numbers, and its moves from there.
+#![tactic(auto)]
+
 ghost use Rattle.std.specs.Prelude.{◌≡◌};
 ghost use Rattle.modes.specs.Moves.{go_to, stay_in, refuse_with, spell_on, go_aside, give_out, count_to};
 
 // What was read last in the prolog, but for markup. Beside each, what may come next.
-#[derive(Drop)]
+#[derive(Clone, Copy)]
 pub enum Prolog {
     // At the start: a byte order mark, a blank or '<'.
     Start,
@@ -31,7 +33,7 @@ pub enum Prolog {
 }
 
 // What was read last.
-#[derive(Drop)]
+#[derive(Clone, Copy)]
 pub enum Mode {
     Prolog(Prolog),
     // '<' at the very start: '?' of the XML declaration, or any markup.
@@ -74,7 +76,7 @@ pub enum Mode {
 }
 
 // What a byte gave: events of the element that it opened or closed, or of a comment.
-#[derive(Drop)]
+#[derive(Clone, Copy)]
 pub enum Gives {
     Nothing,
     Open,
@@ -87,7 +89,7 @@ pub enum Gives {
 pub const AFTER: u16 = 65535;
 
 // The reader between two calls.
-#[derive(Drop)]
+#[derive(Clone, Copy)]
 pub struct Reader {
     pub mode: Mode,
     pub back: Mode,

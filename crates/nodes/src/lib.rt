@@ -1,4 +1,6 @@
 // The waiting nodes in document order, in lent bytes (crate node): what is certain goes out, what is ruled out leaves, the new one joins.
+#![tactic(auto)]
+
 ghost use Rattle.std.specs.Prelude.{◌≡◌, true, false, ◌+◌, ◌*◌, ◌≤◌, ◌<◌, eqb, length, take};
 ghost use Rattle.meaning.specs.Limits.{depth_limit, held_limit, elements_needed, nodes_needed};
 ghost use Rattle.records.specs.Write.{buffer};

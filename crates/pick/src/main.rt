@@ -2,6 +2,8 @@
 //
 // What comes is worked on block by block (crates reads, block and turns): one read, the events that are whole, the lines of what they handed out, and only
 // then the next read. So a pipe is answered as it runs, and no stream needs more room than another.
+#![tactic(auto)]
+
 ghost use Rattle.std.specs.Prelude.{◌≤◌, length};
 ghost use Rattle.meaning.specs.Limits.{elements_needed, nodes_needed};
 ghost use Rattle.io.specs.Counts.{IsPrefixLen};

@@ -2,6 +2,8 @@
 //
 // What comes is worked on as it comes (crate text_turns): one read, the events of what has come, the lines of what they handed out, and only then the next
 // read. So a pipe is answered as it runs, and no text needs more room than another.
+#![tactic(auto)]
+
 ghost use Rattle.std.specs.Prelude.{◌+◌, ◌*◌, ◌≤◌, length};
 ghost use Rattle.meaning.specs.Limits.{node_limit, elements_needed, nodes_needed};
 ghost use Rattle.chains.specs.Index.{index_words};

@@ -1,4 +1,6 @@
 // One byte of what stands around the document element, but for markup: the byte order mark, the XML declaration, blanks.
+#![tactic(auto)]
+
 ghost use Rattle.std.specs.Prelude.{◌≡◌, ◌≤◌};
 ghost use Rattle.prolog.specs.Around.{around, start_tick, mark_tick, xml_tick, declared_tick, query_tick};
 ghost use Rattle.prolog.specs.Told.{part_byte, value_byte, value_row, part_of, small, value_refusal};

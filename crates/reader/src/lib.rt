@@ -1,4 +1,6 @@
 // The reader of XML text: text in, event records out. It takes text in blocks cut anywhere.
+#![tactic(auto)]
+
 ghost use Rattle.std.specs.Prelude.{◌≡◌, ◌≤◌, length};
 ghost use Rattle.slots.specs.Slots.{room_needed};
 ghost use Rattle.chains.specs.Index.{index_words};
@@ -12,7 +14,7 @@ use modes::{AFTER, Gives, Mode, Prolog, Reader};
 pub const OUTPUT: usize = 16;
 
 // What a feed came to: how many bytes were taken, how many bytes of event records were written, and the refusal, or 0.
-#[derive(Drop)]
+#[derive(Clone, Copy)]
 pub struct Fed {
     pub reader: Reader,
     pub taken: usize,
@@ -21,7 +23,7 @@ pub struct Fed {
 }
 
 // What the end of a text came to: the reader, stopped where the text is not a whole document, and the refusal, or 0.
-#[derive(Drop)]
+#[derive(Clone, Copy)]
 pub struct Finished {
     pub reader: Reader,
     pub refusal: u8,

@@ -1,5 +1,7 @@
 // The reader's lent room: a slot for each element that may be open, the outermost first, then one for each attribute of a tag. A slot has the name's bytes,
 // its length, and for an element the name's number.
+#![tactic(auto)]
+
 ghost use Rattle.std.specs.Prelude.{◌≡◌, ◌+◌, ◌≤◌, ◌<◌, length, set, get_or, drop};
 ghost use Rattle.slots.specs.Slots.{room_needed, name_bytes, base_of, length_in, number_in, numbered};
 ghost use Rattle.slots.specs.Copied.{copied, agreed, is_name, doubled_in};
@@ -17,7 +19,7 @@ pub const SLOTS: usize = 272;
 pub const ROOM: usize = 18496;
 
 // How far a loop went into the text, and how many bytes of a name were read.
-#[derive(Drop)]
+#[derive(Clone, Copy)]
 pub struct Walk {
     pub at: usize,
     pub n: u8,

@@ -1,4 +1,6 @@
 // Spellings of names, four bytes at a time: the bucket of one, and whether two are one.
+#![tactic(auto)]
+
 ghost use Rattle.std.specs.Prelude.{◌≡◌, ◌+◌, ◌≤◌, ◌<◌, length, get_or};
 ghost use Rattle.spelling.specs.Bucket.{four_at, mix_limit, mixed, settled, bucket_of};
 ghost use Rattle.xml.specs.Grammar.{same_name};

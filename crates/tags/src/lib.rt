@@ -1,4 +1,6 @@
 // One byte of a tag: the reader after it, and what stands in its room then.
+#![tactic(auto)]
+
 ghost use Rattle.std.specs.Prelude.{◌≡◌, length};
 ghost use Rattle.slots.specs.Slots.{room_needed};
 ghost use Rattle.tags.specs.Markup.{begun, slashed_tick, markup_tick, first_tick};

@@ -1,5 +1,7 @@
 // The loop of the program on XML text: it reads, or reads on in the text that has come, and works on the events, until the text ends, a byte or an event is
 // refused, or standard output takes no more.
+#![tactic(auto)]
+
 ghost use Rattle.std.specs.Prelude.{◌≡◌, ◌+◌, ◌≤◌, length};
 ghost use Rattle.meaning.specs.Limits.{elements_needed, nodes_needed};
 ghost use Rattle.chains.specs.Index.{index_words};

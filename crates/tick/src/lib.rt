@@ -1,4 +1,6 @@
 // One byte of text: the reader after it, or refused, and what stands in its room then.
+#![tactic(auto)]
+
 ghost use Rattle.std.specs.Prelude.{◌≡◌, length};
 ghost use Rattle.slots.specs.Slots.{room_needed};
 ghost use Rattle.tick.specs.Tick.{tick};

@@ -1,4 +1,6 @@
 // The program's loop over the stream: it reads, or works on what is read, until the file ends, an event is refused or standard output takes no more.
+#![tactic(auto)]
+
 ghost use Rattle.std.specs.Prelude.{◌≡◌, ◌*◌, ◌≤◌, length};
 ghost use Rattle.meaning.specs.Limits.{node_limit, output_needed, elements_needed, nodes_needed};
 ghost use Rattle.reads.specs.State.{UnreadWithin};

@@ -1,4 +1,6 @@
 // Some bytes of text at once: those that a loop goes over, and the one after them.
+#![tactic(auto)]
+
 ghost use Rattle.std.specs.Prelude.{◌≡◌, ◌≤◌, ◌<◌, length, drop};
 ghost use Rattle.slots.specs.Slots.{room_needed};
 ghost use Rattle.walk.specs.Walk.{innermost_of, pace_of, walked};
@@ -9,7 +11,7 @@ use modes::{Mode, Reader};
 use slots::Walk;
 
 // What a loop does with the next bytes.
-#[derive(Drop)]
+#[derive(Clone, Copy)]
 pub enum Pace {
     // Copies a name into a slot.
     Copies(usize),
@@ -20,7 +22,7 @@ pub enum Pace {
 }
 
 // The reader and how far it went into the text.
-#[derive(Drop)]
+#[derive(Clone, Copy)]
 pub struct Gone {
     pub reader: Reader,
     pub at: usize,

@@ -1,6 +1,8 @@
 // Reads `names.txt` and `catalogue.xml`, writes the event records to standard output, and a refusal as one line to standard error.
 //
 // What comes is read block by block (crate intake): one read, the events of what has come, written as their buffer fills, and only then the next read.
+#![tactic(auto)]
+
 ghost use Rattle.std.specs.Prelude.{◌≡◌, ◌≤◌, length};
 ghost use Rattle.chains.specs.Index.{index_words};
 ghost use Rattle.xml_events.specs.Program.{more_to_do, Stood, TextAnswered, Answered, Outcome};

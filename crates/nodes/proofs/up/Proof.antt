@@ -5,7 +5,7 @@ use mathlib.Core.Path.{ap, ap₂, sym, ◌∙◌}
 use lib.Bits.{bit_and, bit_or}
 use borrow.Author.Tests.{eq-eqb, ne_eqb}
 use Rattle.plan.specs.Plan.{up_if, up}
-use Rattle.plan.proofs.Plan.Laws.{up_narrow}
+use Rattle.plan.proofs.Masks.{up_narrow}
 use Rattle.plan_bytes.specs.Kept.{kept_in}
 use Rattle.nodes.proofs.up.Statement.{statement}
 use Rattle.nodes.proofs.up.Tie as tie

@@ -5,7 +5,7 @@ use mathlib.Core.Path.{refl}
 use borrow.Author.Rules.{rules}
 use Rattle.meaning.proofs.Limits.Laws.{node_limit_is, output_is}
 use Rattle.session.specs.Event.Laws.{finish_is}
-use Rattle.lines.specs.Put.Laws.{put_taken}
+use Rattle.lines.proofs.Put.Laws.{put_taken}
 use Rattle.pick.specs.Program.Laws.{streamed_lined}
 use Rattle.pick.proofs.answer_events.Statement.{statement}
 use Rattle.pick.proofs.answer_events.Tie as tie

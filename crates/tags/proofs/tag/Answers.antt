@@ -1,0 +1,29 @@
+-- Test by test as its model. Assumes nothing.
+use Rattle.tags.specs.Tag.{tag_tick}
+use Rattle.tags.proofs.Found.{found}
+use Rattle.choice.specs.Tests.{tests}
+use Rattle.tags.proofs.tag.Goals as goal
+
+pub returns-then-has : goal.returns-then-has
+unfolding tag_tick
+returns-then-has c = search (tests, found) depth 12
+
+pub returns-then-has-2 : goal.returns-then-has-2
+unfolding tag_tick
+returns-then-has-2 c = search (tests, found) depth 12
+
+pub returns-then-b-ge128 : goal.returns-then-b-ge128
+unfolding tag_tick
+returns-then-b-ge128 c = search (tests, found) depth 12
+
+pub returns-then-b-eq62 : goal.returns-then-b-eq62
+unfolding tag_tick
+returns-then-b-eq62 c = search (tests, found) depth 12
+
+pub returns-then-b-eq47 : goal.returns-then-b-eq47
+unfolding tag_tick
+returns-then-b-eq47 c = search (tests, found) depth 12
+
+pub returns : goal.returns
+unfolding tag_tick
+returns c = search (tests, found) depth 12
