@@ -1,4 +1,5 @@
-// The query check for callers in C and Rust: the answer as one number, with a byte each for the refusal, the step at fault and the reason.
+// The query check as crate query_export hands it to callers in C and Rust: the answer as one number, with a byte each for the refusal, the step at fault and
+// the reason.
 ghost use Rattle.query_c.specs.Packed.{ExportGives};
 
 use query::QueryAnswer;

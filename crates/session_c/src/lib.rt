@@ -1,6 +1,6 @@
-// The session's calls for callers in C and Rust. The session stands in 312 bytes that the caller lends with each call: 288 that are kept of the query
-// (crate plan_bytes) and 24 of numbers (crate numbers). Answers are numbers: 0, or the refusal's, and 256 times what comes with it; begin's has 65,536
-// times the reason as well.
+// The session's calls as crate session_export hands them to callers in C and Rust. The session stands in 312 bytes that the caller lends with each call: 288
+// that are kept of the query (crate plan_bytes) and 24 of numbers (crate numbers). Answers are numbers: 0, or the refusal's, and 256 times what comes with
+// it; begin's has 65,536 times the reason as well.
 ghost use Rattle.std.specs.Prelude.{◌≡◌, [], ◌∷◌, length};
 ghost use Rattle.words.specs.Words.{bytes_of};
 ghost use Rattle.numbers.specs.Numbers.{numbers_room, numbers_in};
