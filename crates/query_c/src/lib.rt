@@ -1,5 +1,7 @@
 // The query check as crate query_export hands it to callers in C and Rust: the answer as one number, with a byte each for the refusal, the step at fault and
 // the reason.
+#![tactic(auto)]
+
 ghost use Rattle.query_c.specs.Packed.{ExportGives};
 
 use query::QueryAnswer;
