@@ -1,4 +1,6 @@
 // The query check for callers in C and Rust: the answer as one number, with a byte each for the refusal, the step at fault and the reason.
+#![tactic(auto)]
+
 ghost use Rattle.query_c.specs.Packed.{ExportGives};
 
 use query::QueryAnswer;
