@@ -1,5 +1,4 @@
 -- What is left to look at is the whole of it. Assumes nothing.
-use Prim.Native.Nat.{◌-◌}
 use native.Mathlib.Omega.{arith}
 use mathlib.Core.Path.{refl, sym, ◌∙◌}
 use Rattle.chars.specs.Entities.{entity_table, entity_row}

@@ -1,9 +1,7 @@
 -- What is left to skip is the whole of it. Assumes nothing.
-use Prim.Native.Nat.{◌-◌}
 use native.Mathlib.Omega.{arith}
 use mathlib.Core.Path.{refl, sym, ◌∙◌}
 use lib.ListN.{get_or}
-use Rattle.chars.specs.Marks.{span}
 use Rattle.chars.specs.Marks.Laws.{unmarked, is_marked, span_on, span_stop, span_end}
 use Rattle.chars.proofs.skip.Goals as goal
 

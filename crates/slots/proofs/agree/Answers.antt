@@ -1,10 +1,9 @@
 -- What is left to compare is the whole of it. Assumes nothing.
-use Prim.Native.Nat.{◌+◌, ◌-◌}
+use Prim.Native.Nat.{◌+◌}
 use native.Mathlib.Omega.{arith}
 use mathlib.Core.Path.{refl, sym, ap, ◌∙◌}
-use lib.ListN.{length, get_or}
+use lib.ListN.{get_or}
 use Rattle.slots.specs.Slots.Laws.{room_is}
-use Rattle.slots.specs.Copied.{agreed}
 use Rattle.slots.proofs.Copied.Laws.{agreed_end, agreed_whole, agreed_other, agreed_on}
 use Rattle.slots.proofs.agree.Goals as goal
 

@@ -1,8 +1,8 @@
 -- What is left to copy is the whole of it. Assumes nothing.
-use Prim.Native.Nat.{◌+◌, ◌-◌}
+use Prim.Native.Nat.{◌+◌}
 use native.Mathlib.Omega.{arith}
 use mathlib.Core.Path.{refl, sym, ap, ◌∙◌}
-use lib.ListN.{length, get_or, set, drop, length-set}
+use lib.ListN.{get_or, set, drop, length-set}
 use Rattle.chars.specs.Marks.Laws.{unmarked, is_marked}
 use Rattle.slots.specs.Slots.Laws.{room_is}
 use Rattle.slots.specs.Copied.{copied, name_mark}

@@ -1,5 +1,4 @@
 -- What is left to look at is the whole of it. Assumes nothing.
-use Prim.Native.Nat.{◌-◌}
 use native.Mathlib.Omega.{arith}
 use mathlib.Core.Path.{sym, ◌∙◌}
 use Rattle.slots.proofs.Copied.Laws.{doubled_begin, doubled_done, doubled_here, doubled_next}

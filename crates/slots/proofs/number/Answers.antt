@@ -1,6 +1,5 @@
 -- The number is read from its two bytes. Assumes nothing.
 use Rattle.std.proofs.Common.{rules}
-use Prim.Native.Nat.{◌+◌}
 use native.Mathlib.Omega.{arith}
 use Rattle.slots.specs.Slots.Laws.{room_is, number_read}
 use Rattle.slots.proofs.number.Goals as goal
