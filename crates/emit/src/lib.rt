@@ -1,4 +1,6 @@
 // The events that a byte gave, as records in the lent output, and the number of an opened name in its slot.
+#![tactic(auto)]
+
 ghost use Rattle.std.specs.Prelude.{◌≡◌, ◌+◌, ◌≤◌, ◌<◌, length};
 ghost use Rattle.modes.specs.Moves.{open_at};
 ghost use Rattle.slots.specs.Slots.{room_needed, name_in};
