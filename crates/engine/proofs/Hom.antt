@@ -89,7 +89,8 @@ module _
   grow_hom y rs rp [] = ap (λ f. f ∷ []) (frame_hom y rs h.empty (turn_hom rp (h.named y)))
   grow_hom y rs rp (f ∷ fs) =
       ap₂ ◌∷◌ (frame_hom f.node rs inside refl)
-      (grow_hom y (O.turn (O.meets f.node (O.join f.below (rise O y fs))) rs) f.possible fs ∙ ap (λ r. grow P y r (k.ready f.possible) (map (frame_in k) fs)) (turn_hom rs (met_hom f.node inside)))
+      (grow_hom y (O.turn (O.meets f.node (O.join f.below (rise O y fs))) rs) f.possible fs
+      ∙ ap (λ r. grow P y r (k.ready f.possible) (map (frame_in k) fs)) (turn_hom rs (met_hom f.node inside)))
     where
       inside : k.below (O.join f.below (rise O y fs)) ≡ P.join (k.below f.below) (rise P y (map (frame_in k) fs))
       inside = joined f (rise_hom y fs)

@@ -10,7 +10,8 @@
 --   meet_narrow, up_narrow       in w digits a shifted need may lose its highest digit: met with a set of w digits it is the same
 --
 -- Assumes nothing but, for plan_first, T (admits q).
-use Rattle.std.specs.Prelude.{ℕ, zero, suc, pred, ◌+◌, ◌-◌, ◌*◌, ◌%◌, ◌^◌, ◌<◌, ◌≡◌, refl, Bool, true, false, not, ◌&&◌, ◌||◌, List, [], ◌∷◌, map, T, eqb, length, get_or}
+use Rattle.std.specs.Prelude.{ℕ, zero, suc, pred, ◌+◌, ◌-◌, ◌*◌, ◌%◌, ◌^◌, ◌<◌, ◌≡◌, refl, eqb}
+use Rattle.std.specs.Prelude.{Bool, true, false, not, ◌&&◌, ◌||◌, T, List, [], ◌∷◌, map, length, get_or}
 use Rattle.std.proofs.Common.{pow-suc, mod-eq_of_lt, lt_of_le_of_lt, arith, sym, ap, ap₂, ◌∙◌, true≢false, pow_pos, eq-eqb, ne_eqb}
 use Rattle.std.proofs.Math.Bool.{and-false}
 use Rattle.std.proofs.lemmas.Nat.{and_le_l, and_le_r, and_mod}

@@ -9,7 +9,7 @@ use session::Session;
 use system::File;
 
 // How far the stream is worked on.
-#[derive(Drop)]
+#[derive(Clone, Copy)]
 pub struct State {
     pub session: Session,
     // What is read and not taken yet: the bytes of the input from `from` up to `end`.

@@ -73,7 +73,7 @@ pub fn work_all(
         ended: false,
         written: true,
     };
-    while more_to_do(state.refusal, state.ended, state.written) {
+    'turns: while more_to_do(state.refusal, state.ended, state.written) {
         state = take_turn(file, to, state, input, elements, nodes, out, text);
     }
     state

@@ -67,7 +67,8 @@ module _ (P : Plan) (y : Node) where
       met_at (map (frame_shown P) (grow (mask_ops P) y rs rp fs)) (suc (length fs)) ≡ meets P (named P y.name) 0
   unfolding grow met_at
   grow_met rs rp [] = refl
-  grow_met rs rp (f ∷ fs) = grow_met ((mask_ops P).turn (meets P (named P f.node.name) ((mask_ops P).join f.below (Engine.rise (mask_ops P) y fs))) rs) f.possible fs
+  grow_met rs rp (f ∷ fs) =
+      grow_met ((mask_ops P).turn (meets P (named P f.node.name) ((mask_ops P).join f.below (Engine.rise (mask_ops P) y fs))) rs) f.possible fs
 
 -- one more frame changes nothing at the levels before it
 

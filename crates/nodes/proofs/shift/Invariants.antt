@@ -7,7 +7,8 @@ use Rattle.nodes.specs.Nodes.{shifted}
 use Rattle.nodes.proofs.shift.Given as goal
 
 abbrev pub invariant-loop-i : goal.invariant-loop-i
-invariant-loop-i l = (l.i ≤ l.rest) × ((length l.nodes ≡ length l.initial.nodes) × (shifted l.k l.held l.i (queue_in l.nodes) ≡ shifted l.k l.held 0 (queue_in l.initial.nodes)))
+invariant-loop-i l = (l.i ≤ l.rest) × ((length l.nodes ≡ length l.initial.nodes) ×
+    (shifted l.k l.held l.i (queue_in l.nodes) ≡ shifted l.k l.held 0 (queue_in l.initial.nodes)))
 
 abbrev pub decreases-loop-i : goal.decreases-loop-i
 decreases-loop-i l = l.rest - l.i

@@ -5,7 +5,7 @@ use Rattle.turns.proofs.take_turn.Goals as goal
 
 pub returns-then-left-ge8 : goal.returns-then-left-ge8
 returns-then-left-ge8 c =
-    worked c.if-left-ge8.true refl c.work-block.ensures
+    worked c.if-left-ge8.true refl c.work_block.ensures
 
 pub returns : goal.returns
 returns c = read c.if-left-ge8.false refl refl c.read_more.ensures
