@@ -16,7 +16,7 @@ use Rattle.feed.specs.Fed.{Fed}
 use Rattle.session.specs.declared.Ran.{Ran}
 use Rattle.session.specs.Run.{Housed, ran}
 use Rattle.lines.specs.Put.{Put}
-use Rattle.lines.specs.Put.Laws.{put_taken}
+use Rattle.lines.proofs.Put.Laws.{put_taken}
 use Rattle.lines.specs.Text.{lines_of, nodes_in}
 use Rattle.system.specs.Marks.{WriteTold}
 use Rattle.reads.specs.declared.State.{State}

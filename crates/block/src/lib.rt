@@ -1,4 +1,6 @@
 // One block of events: those of what is read that are whole, and the lines of what they hand out, handed to standard output.
+#![tactic(auto)]
+
 ghost use Rattle.std.specs.Prelude.{◌*◌, ◌≤◌, length, take};
 ghost use Rattle.meaning.specs.Limits.{node_limit};
 ghost use Rattle.io.specs.Counts.{IsPrefixLen};
@@ -11,9 +13,10 @@ ghost use Rattle.block.specs.Worked.{Worked};
 
 use reads::State;
 use session::{Ran, Session};
+use std::io::Stdout;
 
 // What the events of a block gave, and how many bytes of text.
-#[derive(Drop)]
+#[derive(Clone, Copy)]
 struct BlockText {
     ran: Ran,
     length: usize,
@@ -41,15 +44,16 @@ fn work(
 }
 
 // Hands the first `length` bytes of the text to standard output.
-pub fn write_text(text: &[u8], length: usize) -> bool
+pub fn write_text(to: Stdout, text: &[u8], length: usize) -> bool
     requires { IsPrefixLen length text.now }
     ensures { WriteTold (take length text.now) result }
 {
-    system::write(&text[..length])
+    system::write(to, &text[..length])
 }
 
 // Works on what is read, and writes the lines.
 pub fn work_block(
+    to: Stdout,
     state: State,
     input: &[u8],
     elements: &mut [u8],
@@ -67,7 +71,7 @@ pub fn work_block(
     let session = state.session;
     let block = work(session, &input[from..end], elements, nodes, out, text);
     let length = block.length;
-    let written = write_text(&*text, length);
+    let written = write_text(to, &*text, length);
     let ran = block.ran;
     let next = ran.session;
     let count = ran.taken;

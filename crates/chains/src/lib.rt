@@ -1,4 +1,6 @@
 // The index of a list of names, in lent words: for each bucket the chain of its places.
+#![tactic(auto)]
+
 ghost use Rattle.std.specs.Prelude.{◌≡◌, ◌≤◌, length};
 ghost use Rattle.listed.specs.Lines.{lines_of};
 ghost use Rattle.spelling.specs.Bucket.{bucket_of};

@@ -1,4 +1,6 @@
 // The lines with which the program ends: the answer to a refused query, and the last line of a stream.
+#![tactic(auto)]
+
 ghost use Rattle.std.specs.Prelude.{◌≤◌, ◌<◌, length};
 ghost use Rattle.io.specs.Counts.{IsPrefixLen};
 ghost use Rattle.lines.specs.Put.{Put};

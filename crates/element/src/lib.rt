@@ -1,4 +1,6 @@
 // The open elements in lent bytes: a record of 64 bytes for each, 16 numbers. The first 6 are its fields; the others are spare, and stay as they are.
+#![tactic(auto)]
+
 ghost use Rattle.std.specs.Prelude.{◌≡◌, ◌<◌, length};
 ghost use Rattle.meaning.specs.Limits.{depth_limit, elements_needed};
 ghost use Rattle.words.specs.Records.{put_at};

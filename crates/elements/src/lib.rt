@@ -1,5 +1,7 @@
 // The open elements, in lent bytes (crate element), by what is kept of a query (crate plan_bytes). Level 0 is the document and level l the l-th open
 // element, outermost first, which has record l - 1.
+#![tactic(auto)]
+
 ghost use Rattle.std.specs.Prelude.{◌≡◌, ◌+◌, ◌≤◌, ◌<◌, eqb, length};
 ghost use Rattle.meaning.specs.Limits.{depth_limit, elements_needed};
 ghost use Rattle.sets.specs.Set.{without, mask_of, only_if};

@@ -1,4 +1,6 @@
 // The events that a byte gave, as records in the lent output, and the number of an opened name in its slot.
+#![tactic(auto)]
+
 ghost use Rattle.std.specs.Prelude.{◌≡◌, ◌+◌, ◌≤◌, ◌<◌, length};
 ghost use Rattle.modes.specs.Moves.{open_at};
 ghost use Rattle.slots.specs.Slots.{room_needed, name_in};
@@ -39,8 +41,8 @@ fn open(
     written: usize,
 ) -> usize
     requires { (length room.old ≡ room_needed) × (index_words ≤ length index.now) × (written + 16 ≤ length out.old) }
-    ensures { record { room = room.exit.now; out = out.new; written = result }
-        ≡ opened names.now index.now slot room.entry.now out.old written }
+    ensures { record { room = room.new; out = out.new; written = result }
+        ≡ opened names.now index.now slot room.old out.old written }
 {
     let name = look_up(names, index, &*room, slot);
     slots::put_number(room, slot, name);
@@ -51,8 +53,8 @@ fn open(
 // An element was closed.
 fn close(slot: usize, room: &[u8], out: &mut [u8], written: usize) -> usize
     requires { (length room.now ≡ room_needed) × (written + 16 ≤ length out.old) }
-    ensures { record { room = room.entry.now; out = out.new; written = result }
-        ≡ closed slot room.entry.now out.old written }
+    ensures { record { room = room.now; out = out.new; written = result }
+        ≡ closed slot room.now out.old written }
 {
     let name = slots::number(room, slot);
     records::put_event(out, written, 2, name);
@@ -79,8 +81,8 @@ pub fn emit(
     written: usize,
 ) -> usize
     requires { (length room.old ≡ room_needed) × (index_words ≤ length index.now) × (written + 16 ≤ length out.old) }
-    ensures { record { room = room.exit.now; out = out.new; written = result }
-        ≡ emitted names.now index.now r room.entry.now out.old written }
+    ensures { record { room = room.new; out = out.new; written = result }
+        ≡ emitted names.now index.now r room.old out.old written }
 {
     let gives = r.gives;
     match gives {

@@ -1,9 +1,6 @@
 -- Sets in another coat: what keeps the operations keeps the engine.
 --
---   Coat               how sets, what is below, readys and needs are turned
---   frame_in, place_in, waiting_in, state_in, result_in     the same of what the engine keeps
---   Hom O P k          k turns each operation of O into that of P
---   open_hom, close_hom      then it turns the engine's events over O into those over P
+--   open_hom, close_hom      a coat that turns each operation of O into that of P turns the engine's events over O into those over P
 --   certain_hom, alive_hom   and the standing of a node is the same
 --   keep_hom, front_hom, past_hom, map_drop_last      lists along a map, by tests that agree there
 --
@@ -18,8 +15,9 @@ use Rattle.std.proofs.lemmas.List.{length-map}
 use Rattle.std.proofs.Math.ListN.{get_or-map}
 use Rattle.meaning.specs.Document.{Node}
 use Rattle.engine.proofs.Every.{Every, e_nil, e_cons, every_all}
-use Rattle.engine.specs.Engine.{Ops, Frame, Place, Waiting, State, Result, keep_if, keep, front_if, front, past_if, past, is_level}
+use Rattle.engine.specs.Engine.{Ops, Frame, Place, Waiting, State, keep_if, keep, front_if, front, past_if, past, is_level}
 use Rattle.engine.specs.Engine.{rise, frame_of, grow, sures, possibles, stands, certain, alive, settle, newcomer, open_model}
+use Rattle.engine.specs.Hom.{Coat, frame_in, place_in, waiting_in, state_in, result_in, Hom}
 use Rattle.engine.specs.Engine.{exact, move_if, move, move_waiting, close_model}
 
 -- lists
@@ -60,43 +58,6 @@ module _ {A B : Type 0} (g : A → B) where
   map_drop_last (x ∷ []) = refl
   map_drop_last (x ∷ (y ∷ xs)) = ap (◌∷◌ (g x)) (map_drop_last (y ∷ xs))
 
--- the coat
-
-pub record Coat (S B R N S' B' R' N' : Type 0) : Type 0 where
-  pub set : S → S'
-  pub below : B → B'
-  pub ready : R → R'
-  pub need : N → N'
-
-module _ {S B R N S' B' R' N' : Type 0} (k : Coat S B R N S' B' R' N') where
-  abbrev pub frame_in : Frame B R → Frame B' R'
-  frame_in f = record { node = f.node; below = k.below f.below; sure = k.ready f.sure; possible = k.ready f.possible }
-
-  abbrev pub place_in : Place N → Place N'
-  place_in x = record { level = x.level; need = k.need x.need }
-
-  abbrev pub waiting_in : Waiting N → Waiting N'
-  waiting_in w = record { number = w.number; place = place_in w.place }
-
-  abbrev pub state_in : State B R N → State B' R' N'
-  state_in s = record { frames = map frame_in s.frames; queue = map waiting_in s.queue; opened = s.opened }
-
-  abbrev pub result_in : Result B R N → Result B' R' N'
-  result_in r = record { state = state_in r.state; out = r.out }
-
-pub record Hom {S B R N S' B' R' N' : Type 0} (O : Ops S B R N) (P : Ops S' B' R' N') (k : Coat S B R N S' B' R' N') : Type 0 where
-  pub none : k.set O.none ≡ P.none
-  pub empty : k.below O.empty ≡ P.empty
-  pub join : (a b : B) → k.below (O.join a b) ≡ P.join (k.below a) (k.below b)
-  pub lift : (M : S) (a : B) → k.below (O.lift M a) ≡ P.lift (k.set M) (k.below a)
-  pub named : (x : Node) → k.set (O.named x) ≡ P.named x
-  pub meets : (x : Node) (a : B) → k.set (O.meets x a) ≡ P.meets x (k.below a)
-  pub turn : (M : S) (r : R) → k.ready (O.turn M r) ≡ P.turn (k.set M) (k.ready r)
-  pub start : k.ready O.start ≡ P.start
-  pub value : (r : R) (n : N) → O.value r n ≡ P.value (k.ready r) (k.need n)
-  pub up : (M : S) (n : N) → k.need (O.up M n) ≡ P.up (k.set M) (k.need n)
-  pub itself : k.need O.itself ≡ P.itself
-
 module _
     {S B R N S' B' R' N' : Type 0} (O : Ops S B R N) (P : Ops S' B' R' N') (k : Coat S B R N S' B' R' N') (h : Hom O P k) where
   -- what has risen from inside, joined to what was below, and its element
@@ -128,7 +89,8 @@ module _
   grow_hom y rs rp [] = ap (λ f. f ∷ []) (frame_hom y rs h.empty (turn_hom rp (h.named y)))
   grow_hom y rs rp (f ∷ fs) =
       ap₂ ◌∷◌ (frame_hom f.node rs inside refl)
-      (grow_hom y _ f.possible fs ∙ ap (λ r. grow P y r (k.ready f.possible) (map (frame_in k) fs)) (turn_hom rs (met_hom f.node inside)))
+      (grow_hom y (O.turn (O.meets f.node (O.join f.below (rise O y fs))) rs) f.possible fs
+      ∙ ap (λ r. grow P y r (k.ready f.possible) (map (frame_in k) fs)) (turn_hom rs (met_hom f.node inside)))
     where
       inside : k.below (O.join f.below (rise O y fs)) ≡ P.join (k.below f.below) (rise P y (map (frame_in k) fs))
       inside = joined f (rise_hom y fs)

@@ -14,7 +14,7 @@ use Rattle.meaning.specs.Selection.{Ready, ReadyOf}
 use Rattle.sets.specs.Set.{join, without, overlaps}
 use Rattle.engine.specs.Need.{NeedOf, Need, itself, one_of}
 use Rattle.engine.specs.Engine.{Ops, State}
-use Rattle.engine.proofs.Hom.{Coat, state_in}
+use Rattle.engine.specs.Hom.{Coat, state_in}
 use Rattle.engine.specs.StateOf.{state_of}
 use Rattle.plan.specs.Order.{back_path, order, mask}
 use Rattle.plan.specs.Plan.{Plan, plan, named, meets, lift, turn, last_given, up_if}

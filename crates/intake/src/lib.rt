@@ -1,4 +1,6 @@
 // The list of names and the text of a catalogue as they come: the file of names, one read more of the text, and the events of what has come.
+#![tactic(auto)]
+
 ghost use Rattle.std.specs.Prelude.{◌≡◌, ◌+◌, ◌≤◌, ◌<◌, length};
 ghost use Rattle.io.specs.Counts.{IsPrefixLen};
 ghost use Rattle.intake.specs.Names.{NamesGiven};
@@ -11,7 +13,7 @@ use system::File;
 pub const LONGEST: u64 = 9223372036854775808;
 
 // How far the text is read.
-#[derive(Drop)]
+#[derive(Clone, Copy)]
 pub struct Intake {
     pub reader: Reader,
     // What has come and is not read yet: the bytes of the input from `from` up to `end`.
@@ -28,7 +30,7 @@ pub struct Intake {
 }
 
 // A refusal, or 0, and where: a line of the list or a byte of the text, counted from 1.
-#[derive(Drop)]
+#[derive(Clone, Copy)]
 pub struct Verdict {
     pub refusal: u8,
     pub at: u64,
@@ -65,19 +67,19 @@ pub fn index_room() -> [u32; 196602]
 }
 
 // Reads the list of names. Answers how many bytes came; "a file that can't be opened counts as empty".
-pub fn read_names(names: &mut [u8]) -> usize
+pub fn read_names(rt: &HostRuntime, names: &mut [u8]) -> usize
     ensures names_given { NamesGiven names.new result }
     ensures prefix_len { IsPrefixLen result names.new }
 {
-    let file = system::open(b"names.txt");
-    let n = system::read_full(file, names);
+    let file = system::open(rt, b"names.txt");
+    let n = system::read_full(&file, names);
     system::close(file);
     n
 }
 
 // One read, where fewer bytes were read than are asked for.
-fn ask(file: File, taken: u64, input: &mut [u8]) -> usize
-    ensures { Asked file taken input.old input.new result }
+fn ask(file: &File, taken: u64, input: &mut [u8]) -> usize
+    ensures { Asked file.now taken input.old input.new result }
 {
     if LONGEST <= taken {
         return 0;
@@ -86,8 +88,8 @@ fn ask(file: File, taken: u64, input: &mut [u8]) -> usize
 }
 
 // Reads once, where all that has come is read.
-fn read_text(file: File, intake: Intake, input: &mut [u8]) -> Intake
-    ensures { TextCame file intake input.old result input.new }
+fn read_text(file: &File, intake: Intake, input: &mut [u8]) -> Intake
+    ensures { TextCame file.now intake input.old result input.new }
 {
     let reader = intake.reader;
     let taken = intake.taken;
@@ -135,7 +137,7 @@ fn feed_text(
 
 // The events of what has come, or one read more where all of it is read.
 pub fn advance(
-    file: File,
+    file: &File,
     intake: Intake,
     input: &mut [u8],
     names: &[u8],
@@ -145,7 +147,7 @@ pub fn advance(
 ) -> Intake
     requires within_text { WithinText intake (length input.old) }
     requires input_len_bound { (length input.old ≤ 65536) × (intake.taken ≤ longest + 65536) }
-    ensures { Advanced names.now index.now file intake input.old room.old events.old result
+    ensures { Advanced names.now index.now file.now intake input.old room.old events.old result
         input.new room.new events.new }
 {
     if intake.from < intake.end {

@@ -1,5 +1,6 @@
 // The limits of a session, the refusal numbers and the reasons, each in this one place of the code; crate meaning, Limits and Refusals, has them for the
 // definitions.
+#![tactic(auto)]
 
 // "A session holds at most 256 open elements and at most 1,024 held nodes"
 pub const DEPTH: usize = 256;

@@ -9,8 +9,7 @@
 --   value cs         the number that a numeral is read as
 --   Numeral cs       cs is a decimal numeral: digits, at least one, and no zero in front of another
 --
--- Assumes nothing. NOT here: that decimal n is the one numeral that is read as n (Decimal.Laws).
-pub mod Laws
+-- Assumes nothing. NOT here: that decimal n is the one numeral that is read as n (proofs/Decimal/Laws).
 use Rattle.std.specs.Prelude.{ℕ, zero, suc, ◌+◌, ◌-◌, ◌*◌, ◌/◌, ◌%◌, ◌≤◌, ◌<◌, cond, List, [], ◌∷◌, ◌++◌, ltb}
 
 -- 48 is the character 0

@@ -3,7 +3,6 @@
 --   Put l at vs l' r      l' is l with vs in place of what stood from at on, and r is where vs ends
 --
 -- It leaves one l' and one r. Assumes nothing. NOT here: what `sets` is (lib.Seq).
-pub mod Laws
 use Rattle.std.specs.Prelude.{ℕ, ◌+◌, ◌≡◌, List, length}
 use Rattle.std.proofs.lemmas.List.Edits.{sets}
 

@@ -10,7 +10,6 @@
 --   refused_line r       the line "refused R"
 --
 -- Assumes nothing. NOT here: which lines the program writes when (crate pick), the nodes in list records (crate records, Write), passed on.
-pub mod Laws
 use Rattle.std.specs.Prelude.{ℕ, List, [], ◌∷◌, ◌++◌}
 use Rattle.lines.specs.Decimal.{decimal}
 pub use Rattle.records.specs.Write.{node_at}

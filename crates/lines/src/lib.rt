@@ -1,4 +1,6 @@
 // What the program writes, as bytes: node numbers in decimal, each on a line of its own, and the last line.
+#![tactic(auto)]
+
 ghost use Rattle.std.specs.Prelude.{◌≡◌, ◌+◌, ◌*◌, ◌≤◌, ◌<◌, length};
 ghost use Rattle.io.specs.Counts.{IsPrefixLen};
 ghost use Rattle.lines.specs.Decimal.{decimal};

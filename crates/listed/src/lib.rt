@@ -39,6 +39,7 @@ pub fn check(names: &[u8]) -> Listing
 }
 
 // Where the line that begins at `from` ends: its line feed, or the end of the list.
+#[tactic(auto, using(crate::specs::Lines::Laws::line_stops))]
 pub fn line_end(names: &[u8], from: usize) -> usize
     requires { from ≤ length names.now }
     ensures { result ≡ from + line_length (drop from names.now) }

@@ -39,9 +39,9 @@ use Rattle.meaning.proofs.Standing.Laws.{StandAt, Alive, listed_is, is_listed, h
 use Rattle.meaning.proofs.Standing.Laws.{is_out, placed, Rising, listed_rising, held_rising, ruled_rising, listed_grows, Settling}
 use Rattle.meaning.proofs.Standing.Laws.{standings_settle, standings_add_up, stand_intro, stand_elim, stand_get, certain_test, undecided_test}
 use Rattle.meaning.proofs.Standing.Laws.{ruled_out_test, alive_test, test_alive, test_certain, test_undecided, test_ruled_out, length_standings_of}
-use Rattle.meaning.specs.Stream.{Event, run, document, Stream, Finishes}
+use Rattle.meaning.specs.Stream.{Event, run, document, Stream}
 use Rattle.meaning.proofs.Stream.Laws.{document_append, sure_run, possible_run}
-use Rattle.meaning.specs.Continuation.{Opened, SelectedBy}
+use Rattle.meaning.specs.Continuation.{Opened}
 use Rattle.meaning.proofs.Continuation.{closing, closing_finishes, closing_selects, certain_every, possible_some}
 use Rattle.meaning.specs.Demands.{SelectedByAll, SelectedBySome, SelectedByNone, MissedBySome, Undecided}
 

@@ -1,3 +1,4 @@
 pub mod Answers
 pub mod Built
 pub mod Found
+pub mod First

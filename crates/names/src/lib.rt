@@ -1,4 +1,6 @@
 // The index of a list of names, in lent words, and the number of a name by it.
+#![tactic(auto)]
+
 ghost use Rattle.std.specs.Prelude.{◌≡◌, ◌≤◌, length};
 ghost use Rattle.chains.specs.Index.{index_words};
 ghost use Rattle.names.specs.Answer.{BuildGives};

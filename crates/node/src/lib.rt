@@ -1,4 +1,6 @@
 // The waiting nodes in lent bytes: a record of 32 bytes for each, 8 numbers. The first 3 are its fields; the others are spare, and stay as they are.
+#![tactic(auto)]
+
 ghost use Rattle.std.specs.Prelude.{◌≡◌, ◌<◌, length};
 ghost use Rattle.meaning.specs.Limits.{held_limit, nodes_needed};
 ghost use Rattle.words.specs.Records.{put_at};

@@ -1,4 +1,6 @@
 // The waiting nodes in document order, in lent bytes (crate node): what is certain goes out, what is ruled out leaves, the new one joins.
+#![tactic(auto)]
+
 ghost use Rattle.std.specs.Prelude.{◌≡◌, true, false, ◌+◌, ◌*◌, ◌≤◌, ◌<◌, eqb, length, take};
 ghost use Rattle.meaning.specs.Limits.{depth_limit, held_limit, elements_needed, nodes_needed};
 ghost use Rattle.records.specs.Write.{buffer};
@@ -10,7 +12,7 @@ ghost use Rattle.plan_bytes.specs.Kept.{plan_room, kept_in};
 ghost use Rattle.nodes.specs.Nodes.{level_of, numbers, kept_if, moved_from, shifted, handed_out, joined};
 
 // Which nodes go at an open: the first `went` that wait; `all` of them and the new node; and whether the new node waits if not.
-#[derive(Drop)]
+#[derive(Clone, Copy)]
 pub struct Going {
     pub went: usize,
     pub all: bool,

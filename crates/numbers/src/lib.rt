@@ -1,4 +1,6 @@
 // A session's numbers in lent bytes: 6 numbers.
+#![tactic(auto)]
+
 ghost use Rattle.std.specs.Prelude.{◌≡◌, ◌<◌, length};
 ghost use Rattle.words.specs.Records.{put_at};
 ghost use Rattle.numbers.specs.Numbers.{numbers_room, shape, field_of, record_in, numbers_in, numbers_of, with_stop};

@@ -1,4 +1,6 @@
 // An open before anything is handed out: which nodes go, what becomes of the open elements, and whether the new node finds a place.
+#![tactic(auto)]
+
 ghost use Rattle.std.specs.Prelude.{◌≡◌, ◌≤◌, ◌<◌, length};
 ghost use Rattle.meaning.specs.Limits.{depth_limit, held_limit, elements_needed, nodes_needed};
 ghost use Rattle.element.specs.Element.{elements_in};

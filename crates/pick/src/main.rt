@@ -2,6 +2,8 @@
 //
 // What comes is worked on block by block (crates reads, block and turns): one read, the events that are whole, the lines of what they handed out, and only
 // then the next read. So a pipe is answered as it runs, and no stream needs more room than another.
+#![tactic(auto)]
+
 ghost use Rattle.std.specs.Prelude.{◌≤◌, length};
 ghost use Rattle.meaning.specs.Limits.{elements_needed, nodes_needed};
 ghost use Rattle.io.specs.Counts.{IsPrefixLen};
@@ -12,7 +14,13 @@ ghost use Rattle.pick.specs.Events.{EventsAnswered};
 use session::Session;
 
 // "a file that can't be opened counts as empty": every read of it fails. Where standard output takes no more, no last line is put.
-fn answer_events(session: Session, elements: &mut [u8], nodes: &mut [u8], text: &mut [u8]) -> usize
+fn answer_events(
+    rt: &HostRuntime,
+    session: Session,
+    elements: &mut [u8],
+    nodes: &mut [u8],
+    text: &mut [u8],
+) -> usize
     requires elements_needed_in_bounds { (elements_needed ≤ length elements.old) × (nodes_needed ≤ length nodes.old) }
     requires in_bounds { (90112 ≤ length text.old) × Started session }
     ensures events_answered { EventsAnswered session text.new result }
@@ -20,8 +28,17 @@ fn answer_events(session: Session, elements: &mut [u8], nodes: &mut [u8], text: 
 {
     let mut input = [0u8; 65536];
     let mut out = [0u8; 32768];
-    let file = system::open(b"events.rec");
-    let state = turns::work_all(file, session, &mut input, elements, nodes, &mut out, text);
+    let file = system::open(rt, b"events.rec");
+    let state = turns::work_all(
+        &file,
+        rt.stdout(),
+        session,
+        &mut input,
+        elements,
+        nodes,
+        &mut out,
+        text,
+    );
     system::close(file);
     if state.written {
         let end = state.session;
@@ -32,7 +49,7 @@ fn answer_events(session: Session, elements: &mut [u8], nodes: &mut [u8], text: 
 }
 
 // "The query is judged first"
-fn answer(query: &[u8], text: &mut [u8]) -> usize
+fn answer(rt: &HostRuntime, query: &[u8], text: &mut [u8]) -> usize
     requires { 90112 ≤ length text.old }
     ensures replied { Replied query.now text.new result }
     ensures prefix_len { IsPrefixLen result text.new }
@@ -46,23 +63,23 @@ fn answer(query: &[u8], text: &mut [u8]) -> usize
         return refused;
     }
     let session = begun.session;
-    answer_events(session, &mut elements, &mut nodes, text)
+    answer_events(rt, session, &mut elements, &mut nodes, text)
 }
 
 // The whole program; `main` itself can have no contract.
-fn answer_files()
+fn answer_files(rt: &HostRuntime)
     ensures { Outcome }
 {
     // one record more than a query may have
     let mut query = [0u8; 264];
     let mut text = [0u8; 90112];
-    let file = system::open(b"query.rec");
-    let n = system::read_full(file, &mut query);
+    let file = system::open(rt, b"query.rec");
+    let n = system::read_full(&file, &mut query);
     system::close(file);
-    let length = answer(&query[..n], &mut text);
-    block::write_text(&text, length);
+    let length = answer(rt, &query[..n], &mut text);
+    block::write_text(rt.stdout(), &text, length);
 }
 
-fn main() {
-    answer_files();
+fn main(rt: HostRuntime) {
+    answer_files(&rt);
 }

@@ -2,6 +2,8 @@
 //
 // What comes is worked on as it comes (crate text_turns): one read, the events of what has come, the lines of what they handed out, and only then the next
 // read. So a pipe is answered as it runs, and no text needs more room than another.
+#![tactic(auto)]
+
 ghost use Rattle.std.specs.Prelude.{◌+◌, ◌*◌, ◌≤◌, length};
 ghost use Rattle.meaning.specs.Limits.{node_limit, elements_needed, nodes_needed};
 ghost use Rattle.chains.specs.Index.{index_words};
@@ -36,6 +38,7 @@ fn last_line(stand: Stand, lines: &mut [u8]) -> usize
 
 // "a file that can't be opened counts as empty": every read of it fails. Where standard output takes no more, no last line is put.
 fn answer_text(
+    rt: &HostRuntime,
     session: Session,
     names: &[u8],
     index: &[u32],
@@ -48,8 +51,17 @@ fn answer_text(
     ensures text_answered { TextAnswered session names.now index.now lines.new result }
     ensures prefix_len { IsPrefixLen result lines.new }
 {
-    let file = system::open(b"catalogue.xml");
-    let stand = text_turns::work_text(file, session, names, index, elements, nodes, lines);
+    let file = system::open(rt, b"catalogue.xml");
+    let stand = text_turns::work_text(
+        &file,
+        rt.stdout(),
+        session,
+        names,
+        index,
+        elements,
+        nodes,
+        lines,
+    );
     system::close(file);
     let state = stand.state;
     if state.written {
@@ -59,7 +71,13 @@ fn answer_text(
 }
 
 // The list of names is judged before the text.
-fn answer_names(session: Session, elements: &mut [u8], nodes: &mut [u8], lines: &mut [u8]) -> usize
+fn answer_names(
+    rt: &HostRuntime,
+    session: Session,
+    elements: &mut [u8],
+    nodes: &mut [u8],
+    lines: &mut [u8],
+) -> usize
     requires elements_needed_in_bounds { (elements_needed ≤ length elements.old) × (nodes_needed ≤ length nodes.old) }
     requires in_bounds { (90112 ≤ length lines.old) × Started session }
     ensures names_answered { NamesAnswered session lines.new result }
@@ -67,16 +85,16 @@ fn answer_names(session: Session, elements: &mut [u8], nodes: &mut [u8], lines: 
 {
     let mut names = intake::names_room();
     let mut index = intake::index_room();
-    let n = intake::read_names(&mut names);
+    let n = intake::read_names(rt, &mut names);
     let listing = names::build(&names[..n], &mut index);
     if listing.refusal != 0 {
         return lines::put_refused_at(listing.refusal, listing.line as u64, lines);
     }
-    answer_text(session, &names[..n], &index, elements, nodes, lines)
+    answer_text(rt, session, &names[..n], &index, elements, nodes, lines)
 }
 
 // "The query is judged first"
-fn answer(query: &[u8], lines: &mut [u8]) -> usize
+fn answer(rt: &HostRuntime, query: &[u8], lines: &mut [u8]) -> usize
     requires { 90112 ≤ length lines.old }
     ensures replied { Replied query.now lines.new result }
     ensures prefix_len { IsPrefixLen result lines.new }
@@ -90,23 +108,23 @@ fn answer(query: &[u8], lines: &mut [u8]) -> usize
         return refused;
     }
     let session = begun.session;
-    answer_names(session, &mut elements, &mut nodes, lines)
+    answer_names(rt, session, &mut elements, &mut nodes, lines)
 }
 
 // The whole program; `main` itself can have no contract.
-fn answer_files()
+fn answer_files(rt: &HostRuntime)
     ensures { Outcome }
 {
     // one record more than a query may have
     let mut query = [0u8; 264];
     let mut lines = [0u8; 90112];
-    let file = system::open(b"query.rec");
-    let n = system::read_full(file, &mut query);
+    let file = system::open(rt, b"query.rec");
+    let n = system::read_full(&file, &mut query);
     system::close(file);
-    let length = answer(&query[..n], &mut lines);
-    block::write_text(&lines, length);
+    let length = answer(rt, &query[..n], &mut lines);
+    block::write_text(rt.stdout(), &lines, length);
 }
 
-fn main() {
-    answer_files();
+fn main(rt: HostRuntime) {
+    answer_files(&rt);
 }

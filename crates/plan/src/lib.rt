@@ -2,7 +2,9 @@
 //
 // Each step has a place, which is its bit: first the main path from its last step to its first, then the predicate steps as they come in the
 // query. So the step after a main-path step is one place lower, and the last main-path step is at place 0.
-// A plan is made of any bytes, of their first 32 steps; that of an admitted query is the plan of what the bytes mean (specs/Planned/Laws.antt).
+// A plan is made of any bytes, of their first 32 steps; that of an admitted query is the plan of what the bytes mean (proofs/Planned/Laws.antt).
+#![tactic(auto)]
+
 ghost use Rattle.std.specs.Prelude.{◌≡◌, ◌+◌, ◌≤◌, ◌<◌, eqb, length, get_or, take};
 ghost use Rattle.meaning.specs.Query.{hangs, goes_deep};
 ghost use Rattle.sets.specs.Set.{mask_of};
@@ -42,7 +44,7 @@ pub struct Plan {
 }
 
 // A test of a step.
-#[derive(Drop)]
+#[derive(Clone, Copy)]
 enum Test {
     // "on the main path"
     OnMain,

@@ -4,6 +4,8 @@
 // An element's name is compared with the step that its bucket says, and with all steps only where the bucket says that several ask for names of it or where
 // there are few steps. In any bytes a step has the test by which it is found so: a step that is no star and that its own name does not find has a test that
 // no name passes.
+#![tactic(auto)]
+
 ghost use Rattle.std.specs.Prelude.{◌≡◌, ◌+◌, ◌*◌, ◌%◌, ◌≤◌, ◌<◌, length, get_or, true, [], ◌∷◌};
 ghost use Rattle.std.proofs.lemmas.List.Edits.{sets};
 ghost use Rattle.sets.specs.Set.{member, mask_of};

@@ -55,6 +55,7 @@ module _ (L : Limits) where
     where
       go : (o : Outcome) → step L (State.att p n ms m) b ≡ o → Stuck o → (r : ℕ) × RefusedAt L r t b
       go (refused r) e h = (r, step_refused L r t b es (State.att p n ms m) (leads_run L (att_reached L i)) e)
+      go (goes _ _) e h = elim h [ ]
 
   spent_stands : (t : List ℕ) → Spent L t → Stands L t
   spent_stands t (spent {es = es} i x f) = record { evs = es; state = _; reads = leads_run L (att_reached L i) }

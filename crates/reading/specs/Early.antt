@@ -131,6 +131,7 @@ module _ (L : Limits) (one_open : T (L.nest 1)) (one_name : T (L.name 1)) where
   name_alive : {p : Place} {n t : List ℕ} {es : List Ev} → InName L p n t es → Alive (State.at (emptied p) b0)
   name_alive (tag (before p) (Fits.before x) i) = done
   name_alive (tag (inside o c) (Fits.inside x) i) = inside_alive b0 o
+  name_alive {n = n} {es = es} (tag {t = t} (At.after _) x20 i) = elim x20 [ ]
 
   tag_alive : {p : Place} {n t : List ℕ} {ms ms' : List (List ℕ)} {j : State} {es : List Ev} → InTag L p n ms t es → TagEnd L p n ms' j → Alive j
   tag_alive (attributed i g) e = along 47 _ _ e.slash (byte_alive 62 _ _ (name_alive i))

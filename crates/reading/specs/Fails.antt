@@ -79,6 +79,7 @@ ascii_below : {b : ℕ} → Within ascii b → b < 128
 ascii_below (here l h) = omega arith
 ascii_below (there (here l h)) = omega arith
 ascii_below (there (there (here l h))) = omega arith
+ascii_below {b = b} (there (there (there x12))) = elim x12 [ ]
 
 pub ascii_passes : (p : ℕ → Bool) → T (all_below 128 (λ b. not (in_class ascii b) || p b)) → (b : ℕ) → In ascii b → T (p b)
 ascii_passes p t b h = implies (in_class ascii b) (p b) (all_below_lem 128 (λ b. not (in_class ascii b) || p b) t b (ascii_below (in_within h))) h.holds

@@ -6,7 +6,7 @@
 --   after_fed              those of any account are a stream
 --
 -- Assumes nothing. NOT here: texts, and what a session answers (Streams).
-use Rattle.std.specs.Prelude.{ℕ, ◌+◌, ◌≡◌, Bool, true, false, T}
+use Rattle.std.specs.Prelude.{ℕ, ◌≡◌, Bool, true, false, T}
 use Rattle.std.proofs.Common.{arith, sym, subst}
 use Rattle.std.proofs.Math.Path.{refl, ap}
 use mathlib.Core.List.{List, [], ◌∷◌, ◌++◌}

@@ -124,6 +124,7 @@ one_range h = go (in_within h)
   where
     go : {r : Range} {b : ℕ} → Within (r ∷ []) b → (r.lo ≤ b) × (b ≤ r.hi)
     go (here l h) = (l, h)
+    go (there x4) = elim x4 [ ]
 
 row_form : {w : List ℕ} → OneOf utf8 w → Form w
 row_form (this (place {b = a} i (place {b = b} j end))) =
@@ -144,6 +145,7 @@ row_form (that (that (this (place {b = a} i (place {b = b} j (place {b = c} k en
     go {a} {b} {c} (here l h) y z = three b y.0 y.1 c z.0 z.1 a (omega arith) (omega arith) (omega arith) (low _ (omega arith) (omega arith))
     go {a} {b} {c} (there (here l h)) y z =
         three b y.0 y.1 c z.0 z.1 a (omega arith) (omega arith) (omega arith) (mid _ (omega arith) (omega arith))
+    go {a = a} {b = b} {c = c} (there (there x35)) y z = elim x35 [ ]
 row_form (that (that (that (this (place {b = a} i (place {b = b} j (place {b = c} k end))))))) =
     let x = one_range i in
     let y = one_range j in
@@ -177,6 +179,7 @@ row_form (that (that (that (that (that (that (that (that (this (place {b = a} i 
     let z = one_range k in
     let v = one_range l in
     four b y.0 (omega arith) c z.0 z.1 d v.0 v.1 a (omega arith) (omega arith) (omega arith)
+row_form {w = w} (that (that (that (that (that (that (that (that (that x36))))))))) = elim x36 [ ]
 
 tail_in : (n : ℕ) → In (to 128 191 ∷ []) (tail n)
 tail_in n = within_in (here (omega arith) (omega arith))
@@ -254,6 +257,7 @@ module _ (n : ℕ) where
       split 0x800 (two_row n l) (λ x. split 0x1000 (row_2 x) (λ y. split 0xd000 (row_3 y) (λ z. row_4 z b)))
   form_row l (there (there (there (here a b)))) = split 0xf000 (row_3' a) (λ x. split 0xffc0 (row_5 x) (λ y. row_6 y b))
   form_row l (there (there (there (there (here a b))))) = split 0x40000 (row_7 a) (λ x. split 0x100000 (row_8 x) (λ y. row_9 y b))
+  form_row l (there (there (there (there (there x20))))) = elim x20 [ ]
 
 -- [2] Char above #x7F, as UTF-8
 pub wide_forms : (w : List ℕ) → OneOf utf8 w ↔ ((n : ℕ) × (128 ≤ n) × In code_points n × (w ≡ encode n))
@@ -266,6 +270,7 @@ narrow_form : {b : ℕ} → Within ascii b → (n : ℕ) × In code_points n × 
 narrow_form {b} (here l h) = (b, within_in (here l h), sym (form_1 b (omega arith)))
 narrow_form {b} (there (here l h)) = (b, within_in (there (here l h)), sym (form_1 b (omega arith)))
 narrow_form {b} (there (there (here l h))) = (b, within_in (there (there (here l (omega arith)))), sym (form_1 b (omega arith)))
+narrow_form {b = b} (there (there (there x12))) = elim x12 [ ]
 
 ascii_within : {n : ℕ} → n < 128 → Within code_points n → Within ascii n
 ascii_within l (here a b) = here a b
@@ -273,6 +278,7 @@ ascii_within l (there (here a b)) = there (here a b)
 ascii_within {n} l (there (there (here a b))) = let m : n ≤ 127 = omega arith in there (there (here a m))
 ascii_within l (there (there (there (here a b)))) = absurd (omega arith)
 ascii_within l (there (there (there (there (here a b))))) = absurd (omega arith)
+ascii_within {n = n} l (there (there (there (there (there x20))))) = elim x20 [ ]
 
 -- [2] Char, as UTF-8
 pub char_forms : (w : List ℕ) → Char ascii w ↔ ((n : ℕ) × In code_points n × (w ≡ encode n))

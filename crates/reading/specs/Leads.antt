@@ -84,9 +84,12 @@ apart_none : (c : Class) (r : Row) (rs : Rows) → T (apart_from (c ∷ r) rs) �
 unfolding apart_from apart
 apart_none c r ([] ∷ rs) t h = t
 apart_none c r ((d ∷ u) ∷ rs) t (that h) = apart_none c r rs (and_r (apart (c ∷ r) (d ∷ u)) _ t) h
+apart_none c r [] t h = elim h [ ]
+apart_none c r ((d ∷ u) ∷ rs) t (this x10) = elim x10 [ ]
 
 none_longer : {b : ℕ} {w : List ℕ} → OneOf ([] ∷ []) (b ∷ w) → ⊥
 none_longer (that h) = none_of h
+none_longer {b = b} {w = w} (this x4) = elim x4 [ ]
 
 settle_waiting : (rs : Rows) (r : ℕ) (fs : List Ev) (k : State) → T (waiting rs) → settle rs r fs k ≡ goes [] (State.rows rs r fs k)
 unfolding some_row filled
@@ -140,6 +143,8 @@ module _ (L : Limits) where
   settle_nil ([] ∷ []) r b fs j k t h e = one e
   settle_nil ([] ∷ (x ∷ rs)) r b fs j k t h e = absurd t
   settle_nil ((c ∷ x) ∷ rs) r b fs j k t (that h) e = absurd (apart_none c x rs (and_l (apart_from (c ∷ x) rs) _ t) h)
+  settle_nil [] r b fs j k t h e = elim h [ ]
+  settle_nil ((c ∷ x) ∷ rs) r b fs j k t (this x18) e = elim x18 [ ]
 
   settle_cons :
       (rs : Rows) (r b b' : ℕ) (w : List ℕ) (fs : List Ev) (j k : State)
@@ -152,6 +157,7 @@ module _ (L : Limits) where
   settle_cons ([] ∷ []) r b b' w fs j k t h e g = absurd (none_longer h)
   settle_cons ([] ∷ (x ∷ rs)) r b b' w fs j k t h e g = absurd t
   settle_cons ((c ∷ x) ∷ rs) r b b' w fs j k t h e g = byte e g
+  settle_cons [] r b b' w fs j k t h e g = elim h [ ]
 
   settle_leads :
       (w : List ℕ) (rs : Rows) (r b : ℕ) (fs : List Ev) (j k : State)
@@ -217,7 +223,7 @@ module _ (L : Limits) where
       (row_byte j k rs r [] b e h ∙ settle_waiting (derive b rs) r [] k (waiting_back w (derive b rs) (derive_sound b rs t) u))
       (rows_part w (derive b rs) r [] k (derive_sound b rs t) u)
 
-  pub each_leads : {t : List ℕ} (c : Class) (k : State) → ((b : ℕ) → In c b → step L k b ≡ goes [] k) → Each c t → Leads k t [] k
+  pub each_leads : (c : Class) {t : List ℕ} (k : State) → ((b : ℕ) → In c b → step L k b ≡ goes [] k) → Each c t → Leads k t [] k
   each_leads c k f Each.none = stay
   each_leads c k f (Each.more e h) = leads_append (each_leads c k f e) (one (f _ h))
 

@@ -48,6 +48,8 @@ pub filled_none : (rs : Rows) → T (filled rs) → OneOf rs [] → ⊥
 unfolding filled
 filled_none ([] ∷ rs) t h = t
 filled_none ((c ∷ r) ∷ rs) t (that h) = filled_none rs t h
+filled_none [] t h = elim h [ ]
+filled_none ((c ∷ r) ∷ rs) t (this x10) = elim x10 [ ]
 
 -- what is spelled by nothing has no row
 pub none_left : (rs : Rows) → T (sound rs) → ((v : List ℕ) → OneOf rs v → ⊥) → rs ≡ []
@@ -63,6 +65,7 @@ left_waiting [] b v t h = absurd (none_of h)
 left_waiting ([] ∷ []) b v t (that h) = absurd (none_of h)
 left_waiting ([] ∷ (r ∷ rs)) b v t h = absurd (and_l (false && all_apart (r ∷ rs)) (all_spelled ([] ∷ (r ∷ rs))) t)
 left_waiting ((c ∷ r) ∷ rs) b v t h = sound_waiting c r rs t
+left_waiting ([] ∷ []) b v t (this x6) = elim x6 [ ]
 
 derived_waiting : (b : ℕ) (rs : Rows) → T (sound rs) → T (waiting (derive b rs)) → T (waiting rs)
 derived_waiting b rs t u = let (v, h) = some_spelling (derive b rs) u in left_waiting rs b v t (derive_back b rs h)

@@ -12,7 +12,7 @@ use Rattle.std.proofs.Common.{sym, ap, ◌∙◌, subst}
 use mathlib.Core.List.{List, [], ◌∷◌, ◌++◌, cons≢nil}
 use Rattle.std.proofs.Math.Dec.{eqb_refl}
 use Rattle.meaning.specs.Name.{is_name}
-use Rattle.meaning.specs.Document.{Node, Row, nil, Doc, done, within, blank, opened, closed, finished, ends_at}
+use Rattle.meaning.specs.Document.{Node, Row, Doc, done, within, blank, opened, closed, finished, ends_at}
 use Rattle.meaning.specs.Stream.{opens, closes, fits, act}
 use Rattle.meaning.proofs.Stream.Laws.{Leads, leads_one}
 use Rattle.xml.proofs.Class.Laws.{and_i}

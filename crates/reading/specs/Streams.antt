@@ -144,7 +144,7 @@ module _ (f : List ℕ → ℕ) (F : Numbering f) (L : Limits) where
   finish_due : (q : Query) (es : List Event) {r : ℕ} → T (finished (document es)) → Due q (going es) finish r → ⊥
   finish_due q es t (Due.already_stopped_lem x) = x
   finish_due q es t (Due.no_document x) = let z = (finished_exactly (document es)).0 t in omega (arith, z.0)
-  finish_due q es t (Due.still_Open x) = let z = (finished_exactly (document es)).0 t in omega (arith, z.1)
+  finish_due q es t (Due.still_open x) = let z = (finished_exactly (document es)).0 t in omega (arith, z.1)
 
   -- after the events of a document finish is not refused
   pub never_unfinished :

@@ -20,8 +20,8 @@ use Rattle.reading.specs.Cut.{run_byte}
 use Rattle.reading.specs.Account.Sound.{run_account}
 use Rattle.reading.specs.Refusing.{Stands, refused_stands, never_both}
 use Rattle.reading.specs.Earliest.{earliest, one_open, one_name}
-use Explained.{Said, other, said, Spoken, goes', says, step-said}
-use Given.{sentence-given}
+use Explained.{Said, other, said, Spoken, goes', says, step_said}
+use Given.{sentence_given}
 
 pub one_number : (L : Limits) (r q : ℕ) (t : List ℕ) (b : ℕ) → RefusedAt L r t b → RefusedAt L q t b → r ≡ q
 one_number L r q t b h g = let e : stopped h.evs r (b ∷ []) ≡ stopped g.evs q (b ∷ []) = sym h.refuses ∙ g.refuses in cc
@@ -75,27 +75,27 @@ sentence_number L (Refusal.foreign_in_attribute i h) = omega arith
 
 -- no two sentences hold of one text and byte
 pub one_sentence : (L : Limits) (r q : ℕ) (t : List ℕ) (b : ℕ) → Refusal L r t b → Refusal L q t b → r ≡ q
-one_sentence L r q t b h g = one_number L r q t b (sentence-given L h) (sentence-given L g)
+one_sentence L r q t b h g = one_number L r q t b (sentence_given L h) (sentence_given L g)
 
 module _ (L : Limits) (one_open : T (L.nest 1)) (one_name : T (L.name 1)) where
   refused_said : (r : ℕ) (t : List ℕ) (b : ℕ) → RefusedAt L r t b → Said L r t b
   refused_said r t b h =
       let s : Stands L t = refused_stands L r t b h in
-      spoken_said L r (step-said L one_open one_name b (run_account L t s.evs s.state s.reads)) (refused_step L r t b s.evs s.state s.reads h)
+      spoken_said L r (step_said L one_open one_name b (run_account L t s.evs s.state s.reads)) (refused_step L r t b s.evs s.state s.reads h)
 
   unless : {r : ℕ} {t : List ℕ} {b : ℕ} → (r ≡ 30 → ⊥) → Said L r t b → Refusal L r t b
   unless f other = absurd (f refl)
   unless f (said h) = h
 
   pub table_exactly : (r : ℕ) (t : List ℕ) (b : ℕ) → (r ≡ 30 → ⊥) → RefusedAt L r t b ↔ Refusal L r t b
-  table_exactly r t b f = (λ h. unless f (refused_said r t b h), sentence-given L)
+  table_exactly r t b f = (λ h. unless f (refused_said r t b h), sentence_given L)
 
   pub misplaced_exactly :
       (t : List ℕ) (b : ℕ) → RefusedAt L 30 t b ↔ (((r : ℕ) × RefusedAt L r t b) × ((r : ℕ) → Refusal L r t b → ⊥))
   misplaced_exactly t b = (
     λ h. (
       (30, h),
-      λ r g. let e : r ≡ 30 = one_number L r 30 t b (sentence-given L g) h in let n = sentence_number L g in omega arith,
+      λ r g. let e : r ≡ 30 = one_number L r 30 t b (sentence_given L g) h in let n = sentence_number L g in omega arith,
     ),
     λ h. only h.0.1 h.1 (refused_said h.0.0 t b h.0.1),
   )

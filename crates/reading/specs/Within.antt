@@ -31,6 +31,7 @@ ranged (r ∷ c) b t =
     (λ h. here (leb→le r.lo b (and_l (leb r.lo b) _ h)) (leb→le b r.hi (and_r (leb r.lo b) _ h)))
     (λ h. there (ranged c b h))
     (or_case (in_range r b) (in_class c b) t)
+ranged [] b t = elim t [ ]
 
 pub in_within : {c : Class} {b : ℕ} → In c b → Within c b
 in_within {c} {b} h = ranged c b h.holds
@@ -54,11 +55,13 @@ holds_within (q ∷ c) r b t l h =
     here (omega arith) (omega arith))
     (λ u. there (holds_within c r b u l h))
     (or_case (leb q.lo r.lo && leb r.hi q.hi) (holds c r) t)
+holds_within [] r b t l h = elim t [ ]
 
 pub part_within : (c d : Class) (b : ℕ) → T (part_of d c) → Within d b → Within c b
 unfolding part_of
 part_within c (r ∷ d) b t (here l h) = holds_within c r b (and_l (holds c r) _ t) l h
 part_within c (r ∷ d) b t (there h) = part_within c d b (and_r (holds c r) _ t) h
+part_within c [] b t x'' = elim x'' [ ]
 
 unfoldable pub all_below : ℕ → (ℕ → Bool) → Bool
 all_below zero p = true

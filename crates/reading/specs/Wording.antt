@@ -5,7 +5,7 @@
 --   remark_is            what a comment has inside is a sequence of Chars with '--' nowhere inside, and with no '-' at its end;  comment_is: the whole
 --
 -- Assumes nothing. NOT here: what a Char is in bytes (Forms).
-use Rattle.std.specs.Prelude.{ℕ, ◌≡◌, refl, ◌⊎◌, ◌↔◌, Bool, true, not, ◌&&◌, T, eqb}
+use Rattle.std.specs.Prelude.{ℕ, ◌≡◌, refl, ◌↔◌, Bool, true, not, ◌&&◌, T, eqb}
 use Rattle.std.proofs.Common.{arith, sym, ap, ◌∙◌, subst, ⊎_elim, eqb→eq, T_not}
 use mathlib.Core.List.{List, [], ◌∷◌, ◌++◌, append_assoc, append-nil, cons≢nil}
 use Rattle.xml.specs.Class.{Class, Row, Rows, in_class, In, OneOf, this, that, Spells, end, place, filled}
@@ -45,6 +45,7 @@ rows_avoid : (c : Class) (z : ℕ) (rs : Rows) {w : List ℕ} → T (not (in_cla
 unfolding rows_in
 rows_avoid c z (r ∷ rs) t u (this h) = row_avoids c z r t (and_l (row_in c r) _ u) h
 rows_avoid c z (r ∷ rs) t u (that h) = rows_avoid c z rs t (and_r (row_in c r) _ u) h
+rows_avoid c z [] {w = w} t u x3 = elim x3 [ ]
 
 char_avoids : (d : Class) (z : ℕ) {c : List ℕ} → T (not (in_class d z)) → T (not (in_class beyond z)) → Char d c → Avoids z c
 unfolding rows_in row_in part_of holds

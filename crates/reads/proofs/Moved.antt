@@ -11,7 +11,7 @@ use mathlib.Core.List.{List, [], ◌∷◌}
 use lib.ListN.{length, get_or, take, drop, set}
 use lib.Seq.{sets, get_or-set_other, get_or-drop}
 use Rattle.lines.specs.Put.{Put}
-use Rattle.lines.specs.Put.Laws.{put_more}
+use Rattle.lines.proofs.Put.Laws.{put_more}
 
 get_d_past : (l : List ℕ) (at : ℕ) (vs : List ℕ) (j : ℕ) → at + length vs ≤ j → get_or (sets l at vs) j 0 ≡ get_or l j 0
 get_d_past l at [] j h = refl

@@ -14,7 +14,7 @@ use lib.Seq.{take-add, length-take-le, length-sets}
 use borrow.Author.Tests.{eq-eqb, ne_eqb}
 use Rattle.choice.specs.When.{when_yes, when_no, never}
 use Rattle.lines.specs.Put.{Put}
-use Rattle.lines.specs.Put.Laws.{put_taken}
+use Rattle.lines.proofs.Put.Laws.{put_taken}
 use Rattle.system.specs.declared.File.{File}
 use Rattle.system.specs.Marks.{ReadAt}
 use Rattle.reads.specs.declared.State.{State}

@@ -1,4 +1,6 @@
 // How far the stream is worked on, and one read more, behind what is left over.
+#![tactic(auto)]
+
 ghost use Rattle.std.specs.Prelude.{◌≡◌, ◌+◌, ◌-◌, ◌≤◌, ◌<◌, length, take, drop};
 ghost use Rattle.lines.specs.Put.{Put};
 ghost use Rattle.reads.specs.State.{UnreadWithin, leftover_of, ReadMore};
@@ -7,7 +9,7 @@ use session::Session;
 use system::File;
 
 // How far the stream is worked on.
-#[derive(Drop)]
+#[derive(Clone, Copy)]
 pub struct State {
     pub session: Session,
     // What is read and not taken yet: the bytes of the input from `from` up to `end`.
@@ -47,9 +49,9 @@ fn leftover(left: usize) -> u8
 }
 
 // Reads once, behind what is left over.
-pub fn read_more(file: File, state: State, input: &mut [u8]) -> State
+pub fn read_more(file: &File, state: State, input: &mut [u8]) -> State
     requires { UnreadWithin state (length input.old) × (state.end - state.from < length input.old) }
-    ensures { ReadMore file state input.old result input.new }
+    ensures { ReadMore file.now state input.old result input.new }
 {
     let from = state.from;
     let left = state.end - from;

@@ -26,11 +26,11 @@ use Rattle.plan.specs.Every.{Every, e_nil, e_cons, every_map, every_both, every_
 use Rattle.plan.specs.Order.{back_path, predicates, order, mask}
 use Rattle.plan.proofs.Places.Laws.{order_length}
 use Rattle.plan.specs.Plan.{plan, named}
-use Rattle.plan.proofs.Plan.Laws.{plan_size, named_under, meets_under}
+use Rattle.plan.proofs.Masks.{plan_size, named_under, meets_under}
 use Rattle.engine.proofs.Every.{every_keep, every_past}
 use Rattle.engine.specs.Need.{Need, itself, one_of}
 use Rattle.engine.specs.Engine as Engine
-use Rattle.engine.proofs.Hom.{frame_in, waiting_in}
+use Rattle.engine.specs.Hom.{frame_in, waiting_in}
 use Rattle.engine.specs.MaskOps.{masks, need_mask, mask_state}
 use Rattle.engine.specs.StateOf.{frames_of, places, number, frames_at, nodes, state_of}
 use Rattle.engine.proofs.StateOf.Places.{length_places}

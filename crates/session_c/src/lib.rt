@@ -1,6 +1,6 @@
-// The session's calls for callers in C and Rust. The session stands in 312 bytes that the caller lends with each call: 288 that are kept of the query
-// (crate plan_bytes) and 24 of numbers (crate numbers). Answers are numbers: 0, or the refusal's, and 256 times what comes with it; begin's has 65,536
-// times the reason as well.
+// The session's calls as crate session_export hands them to callers in C and Rust. The session stands in 312 bytes that the caller lends with each call: 288
+// that are kept of the query (crate plan_bytes) and 24 of numbers (crate numbers). Answers are numbers: 0, or the refusal's, and 256 times what comes with
+// it; begin's has 65,536 times the reason as well.
 ghost use Rattle.std.specs.Prelude.{◌≡◌, [], ◌∷◌, length};
 ghost use Rattle.words.specs.Words.{bytes_of};
 ghost use Rattle.numbers.specs.Numbers.{numbers_room, numbers_in};
@@ -103,13 +103,7 @@ fn answer_begin(answer: Start, first: Session, room: &mut [u8]) -> u64
 
 // A session for a query, in the 312 bytes of `session`, whatever they held: 0, or the refusal's number. With refusal 10 come 256 times the number of the
 // first step at fault and 65,536 times the reason, as `compassflare_check` answers (crate query_c).
-#[unsafe(no_mangle)]
-pub extern "C" fn compassflare_begin(
-    query: &[u8],
-    elements: &[u8],
-    nodes: &[u8],
-    session: &mut [u8],
-) -> u64
+pub fn compassflare_begin(query: &[u8], elements: &[u8], nodes: &[u8], session: &mut [u8]) -> u64
     ensures { ExportBegins query.now elements.now nodes.now session.old result
         session.new }
 {
@@ -133,8 +127,7 @@ fn answer_event(refusal: u8, listed: u32) -> u64
 }
 
 // Takes one event: 256 times how many list records stand at the start of `out`, or the refusal's number.
-#[unsafe(no_mangle)]
-pub extern "C" fn compassflare_event(
+pub fn compassflare_event(
     session: &mut [u8],
     bytes: &[u8],
     elements: &mut [u8],
@@ -185,8 +178,7 @@ fn put_moved(taken: usize, refusal: u8, next: Session, room: &mut [u8])
 
 // Takes a block of events: 0, or the number of the refusal with which it ended. `counts` is how many events were taken, and how many list records stand at
 // the start of `out`; it is written beside a refusal too.
-#[unsafe(no_mangle)]
-pub extern "C" fn compassflare_run(
+pub fn compassflare_run(
     session: &mut [u8],
     events: &[u8],
     elements: &mut [u8],
@@ -225,8 +217,7 @@ fn answer_finish(answer: Finish, counts: &mut [u8]) -> u64
 }
 
 // "it changes nothing and may be asked again": 0, or the refusal's number. `counts` is how many nodes were opened, and how many handed out.
-#[unsafe(no_mangle)]
-pub extern "C" fn compassflare_finish(session: &[u8], counts: &mut [u8]) -> u64
+pub fn compassflare_finish(session: &[u8], counts: &mut [u8]) -> u64
     ensures { ExportFinishes session.now counts.old result counts.new }
 {
     if session.len() != ROOM {

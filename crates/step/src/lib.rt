@@ -1,5 +1,7 @@
 // One event on lent bytes: the refusals in the order of their numbers, one dispatch on the event's kind, an open and a close. Everything is lent: what is
 // kept of the query (crate plan_bytes), the session's numbers (numbers), the open elements (elements), the waiting nodes (nodes) and the output buffer.
+#![tactic(auto)]
+
 ghost use Rattle.std.specs.Prelude.{◌≡◌, ◌*◌, ◌≤◌, ◌<◌, length};
 ghost use Rattle.meaning.specs.Record.{event_of};
 ghost use Rattle.meaning.specs.Limits.{depth_limit, held_limit, output_needed, elements_needed, nodes_needed};

@@ -1,5 +1,7 @@
 // What the session's numbers decide and how they go on: the refusals told by the numbers, and for a close by the innermost name, and the numbers after
 // an open and after a close.
+#![tactic(auto)]
+
 ghost use Rattle.std.specs.Prelude.{◌≡◌, length};
 ghost use Rattle.meaning.specs.Limits.{elements_needed};
 ghost use Rattle.element.specs.Element.{elements_in};

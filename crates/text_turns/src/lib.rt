@@ -1,5 +1,7 @@
 // The loop of the program on XML text: it reads, or reads on in the text that has come, and works on the events, until the text ends, a byte or an event is
 // refused, or standard output takes no more.
+#![tactic(auto)]
+
 ghost use Rattle.std.specs.Prelude.{◌≡◌, ◌+◌, ◌≤◌, length};
 ghost use Rattle.meaning.specs.Limits.{elements_needed, nodes_needed};
 ghost use Rattle.chains.specs.Index.{index_words};
@@ -11,10 +13,11 @@ ghost use Rattle.text_turns.specs.Picked.{WorkedText};
 use intake::Intake;
 use reads::State;
 use session::Session;
+use std::io::Stdout;
 use system::File;
 
 // How far the text is read and its events are worked on.
-#[derive(Drop)]
+#[derive(Clone, Copy)]
 pub struct Stand {
     pub intake: Intake,
     pub state: State,
@@ -63,7 +66,7 @@ fn begin(session: Session) -> Stand
 
 // More events, where all that have come are worked on.
 fn refill(
-    file: File,
+    file: &File,
     stand: Stand,
     input: &mut [u8],
     names: &[u8],
@@ -73,7 +76,7 @@ fn refill(
 ) -> Stand
     requires within_text { WithinText stand.intake (length input.old) }
     requires input_len_bound { (length input.old ≤ 65536) × (stand.intake.taken ≤ longest + 65536) }
-    ensures { Refilled names.now index.now file stand input.old room.old events.old result
+    ensures { Refilled names.now index.now file.now stand input.old room.old events.old result
         input.new room.new events.new }
 {
     let state = stand.state;
@@ -99,7 +102,8 @@ fn refill(
 
 // A turn reads once, takes a byte, or works on an event.
 pub fn work_text(
-    file: File,
+    file: &File,
+    to: Stdout,
     session: Session,
     names: &[u8],
     index: &[u32],
@@ -109,7 +113,7 @@ pub fn work_text(
 ) -> Stand
     requires elements_needed_in_bounds { (elements_needed ≤ length elements.old) × (nodes_needed ≤ length nodes.old) }
     requires in_bounds { (90112 ≤ length lines.old) × ((index_words ≤ length index.now) × Started session) }
-    ensures { WorkedText names.now index.now file session result elements.new nodes.new }
+    ensures { WorkedText names.now index.now file.now session result elements.new nodes.new }
 {
     let mut input = [0u8; 65536];
     let mut room = [0u8; 18496];
@@ -135,7 +139,7 @@ pub fn work_text(
         );
         let intake = filled.intake;
         let before = filled.state;
-        let state = block::work_block(before, &events, elements, nodes, &mut out, lines);
+        let state = block::work_block(to, before, &events, elements, nodes, &mut out, lines);
         stand = Stand { intake, state };
     }
     stand

@@ -1,5 +1,8 @@
 // Runs R1, R2 and R3, and lent room that is too small, through the session's own calls and writes what came.
+#![tactic(auto)]
+
 use session::{Answer, Begun, Session, Start};
+use std::io::Stdout;
 
 const OPENS: u8 = 1;
 
@@ -12,7 +15,7 @@ const D: u8 = 2;
 const C: u8 = 3;
 
 // A session to which events were offered up to the first refusal.
-#[derive(Drop)]
+#[derive(Clone, Copy)]
 struct Run {
     session: Session,
     // How many events were taken, and how many nodes they handed out.
@@ -23,39 +26,41 @@ struct Run {
     refusal: u8,
 }
 
-fn say(word: &[u8]) {
-    io::write_all(libc::STDOUT_FILENO, word);
+fn say(to: Stdout, word: &[u8]) {
+    system::write(to, word);
 }
 
-fn say_number(n: u64) {
-    io::print_decimal(libc::STDOUT_FILENO, n);
+fn say_number(to: Stdout, n: u64) {
+    let mut text = [0u8; 20];
+    let length = io::decimal(n, &mut text);
+    system::write(to, &text[..length]);
 }
 
 // What begin answers: the program's line where it is refused.
-fn say_begun(answer: Start) {
+fn say_begun(to: Stdout, answer: Start) {
     let mut text = [0u8; 64];
     let end = closing::query_line(answer, &mut text);
     if end == 0 {
-        say(b"taken\n");
+        say(to, b"taken\n");
     }
-    say(&text[..end]);
+    say(to, &text[..end]);
 }
 
-fn say_run(run: Run) {
+fn say_run(to: Stdout, run: Run) {
     let refusal = run.refusal;
     if 0 < refusal {
-        say(b"refused ");
-        say_number(refusal as u64);
-        say(b" at event ");
-        say_number(std::num::wrapping_add_u64(run.taken, 1));
+        say(to, b"refused ");
+        say_number(to, refusal as u64);
+        say(to, b" at event ");
+        say_number(to, run.taken.wrapping_add(1));
     } else {
-        say(b"all ");
-        say_number(run.taken);
-        say(b" events taken");
+        say(to, b"all ");
+        say_number(to, run.taken);
+        say(to, b" events taken");
     }
-    say(b", handed out ");
-    say_number(run.handed);
-    say(b"\n");
+    say(to, b", handed out ");
+    say_number(to, run.handed);
+    say(to, b"\n");
 }
 
 fn start(session: Session) -> Run {
@@ -95,8 +100,8 @@ fn offer(
         },
         Answer::Taken(n) => Run {
             session: next,
-            taken: std::num::wrapping_add_u64(run.taken, 1),
-            handed: std::num::wrapping_add_u64(run.handed, n as u64),
+            taken: run.taken.wrapping_add(1),
+            handed: run.handed.wrapping_add(n as u64),
             last: n,
             refusal: 0,
         },
@@ -129,12 +134,12 @@ fn catalogue_query() -> [u8; 24] {
     ]
 }
 
-fn begin_catalogue(elements: &[u8], nodes: &[u8]) -> Session {
+fn begin_catalogue(to: Stdout, elements: &[u8], nodes: &[u8]) -> Session {
     let query = catalogue_query();
     let begun = session::begin(&query, elements, nodes);
     let answer = begun.answer;
-    say(b"query ");
-    say_begun(answer);
+    say(to, b"query ");
+    say_begun(to, answer);
     begun.session
 }
 
@@ -145,8 +150,14 @@ fn offer_r(run: Run, count: usize, elements: &mut [u8], nodes: &mut [u8], out: &
 }
 
 // "r with 1,024 empty d then c", for so many d.
-fn catalogue(count: usize, elements: &mut [u8], nodes: &mut [u8], out: &mut [u8]) -> Run {
-    let session = begin_catalogue(&*elements, &*nodes);
+fn catalogue(
+    to: Stdout,
+    count: usize,
+    elements: &mut [u8],
+    nodes: &mut [u8],
+    out: &mut [u8],
+) -> Run {
+    let session = begin_catalogue(to, &*elements, &*nodes);
     let run = offer_r(start(session), count, elements, nodes, out);
     offer(run, OPENS, C, elements, nodes, out)
 }
@@ -159,7 +170,7 @@ fn in_a_row(records: &[u8], first: u64, count: u32) -> bool {
         if records.len() < 4 * at + 4 {
             return false;
         }
-        if lines::node_at(records, at) != std::num::wrapping_add_u64(first, at as u64) {
+        if lines::node_at(records, at) != first.wrapping_add(at as u64) {
             return false;
         }
         i += 1;
@@ -168,39 +179,39 @@ fn in_a_row(records: &[u8], first: u64, count: u32) -> bool {
 }
 
 // The nodes that the last event handed out.
-fn say_nodes(records: &[u8], count: u32) {
-    say_number(count as u64);
-    say(b" nodes");
+fn say_nodes(to: Stdout, records: &[u8], count: u32) {
+    say_number(to, count as u64);
+    say(to, b" nodes");
     if 0 < count {
         if 4 <= records.len() {
             let first = lines::node_at(records, 0);
             if in_a_row(records, first, count) {
-                say(b", each from ");
-                say_number(first);
-                say(b" to ");
-                say_number(std::num::wrapping_add_u64(first, count as u64 - 1));
+                say(to, b", each from ");
+                say_number(to, first);
+                say(to, b" to ");
+                say_number(to, first.wrapping_add(count as u64 - 1));
             } else {
-                say(b", not in a row");
+                say(to, b", not in a row");
             }
         }
     }
-    say(b"\n");
+    say(to, b"\n");
 }
 
-fn r1(elements: &mut [u8], nodes: &mut [u8], out: &mut [u8]) {
-    say(b"R1 ");
-    let run = catalogue(limits::HELD, elements, nodes, out);
-    say(b"R1 ");
-    say_run(run);
-    say(b"R1 the opening of c handed out ");
-    say_nodes(&*out, run.last);
+fn r1(to: Stdout, elements: &mut [u8], nodes: &mut [u8], out: &mut [u8]) {
+    say(to, b"R1 ");
+    let run = catalogue(to, limits::HELD, elements, nodes, out);
+    say(to, b"R1 ");
+    say_run(to, run);
+    say(to, b"R1 the opening of c handed out ");
+    say_nodes(to, &*out, run.last);
 }
 
-fn r2(elements: &mut [u8], nodes: &mut [u8], out: &mut [u8]) {
-    say(b"R2 ");
-    let run = catalogue(limits::HELD + 1, elements, nodes, out);
-    say(b"R2 ");
-    say_run(run);
+fn r2(to: Stdout, elements: &mut [u8], nodes: &mut [u8], out: &mut [u8]) {
+    say(to, b"R2 ");
+    let run = catalogue(to, limits::HELD + 1, elements, nodes, out);
+    say(to, b"R2 ");
+    say_run(to, run);
 }
 
 // "/child::r"
@@ -221,12 +232,12 @@ fn offer_rs(run: Run, count: usize, elements: &mut [u8], nodes: &mut [u8], out: 
 }
 
 // "256 nested opens are taken, the 257th gets 5."
-fn nested(elements: &mut [u8], nodes: &mut [u8], out: &mut [u8]) {
+fn nested(to: Stdout, elements: &mut [u8], nodes: &mut [u8], out: &mut [u8]) {
     let begun = begin_r(&*elements, &*nodes);
     let session = begun.session;
     let run = offer_rs(start(session), limits::DEPTH + 1, elements, nodes, out);
-    say(b"R3 nested opens: ");
-    say_run(run);
+    say(to, b"R3 nested opens: ");
+    say_run(to, run);
 }
 
 // Byte `at` of a query whose first step is on the main path and whose others are its predicates, each child::*.
@@ -253,66 +264,73 @@ fn put_steps(query: &mut [u8]) {
 }
 
 // "A query of 32 steps is taken, of 33 gets 9."
-fn long_query(query: &mut [u8], elements: &[u8], nodes: &[u8]) {
+fn long_query(to: Stdout, query: &mut [u8], elements: &[u8], nodes: &[u8]) {
     put_steps(query);
     let begun = session::begin(&*query, elements, nodes);
     let answer = begun.answer;
-    say(b"R3 query of ");
-    say_number((query.len() / 8) as u64);
-    say(b" steps: ");
-    say_begun(answer);
+    say(to, b"R3 query of ");
+    say_number(to, (query.len() / 8) as u64);
+    say(to, b" steps: ");
+    say_begun(to, answer);
 }
 
-fn queries(elements: &[u8], nodes: &[u8]) {
+fn queries(to: Stdout, elements: &[u8], nodes: &[u8]) {
     let mut most = [0u8; 256];
     let mut more = [0u8; 264];
-    long_query(&mut most, elements, nodes);
-    long_query(&mut more, elements, nodes);
+    long_query(to, &mut most, elements, nodes);
+    long_query(to, &mut more, elements, nodes);
 }
 
 // "A buffer of 4,099 bytes gets 1."
-fn with_buffer(elements: &mut [u8], nodes: &mut [u8], out: &mut [u8]) {
+fn with_buffer(to: Stdout, elements: &mut [u8], nodes: &mut [u8], out: &mut [u8]) {
     let begun = begin_r(&*elements, &*nodes);
     let session = begun.session;
-    say(b"R3 buffer of ");
-    say_number(out.len() as u64);
-    say(b" bytes: ");
-    say_run(offer(start(session), OPENS, R, elements, nodes, out));
+    say(to, b"R3 buffer of ");
+    say_number(to, out.len() as u64);
+    say(to, b" bytes: ");
+    say_run(to, offer(start(session), OPENS, R, elements, nodes, out));
 }
 
-fn buffers(elements: &mut [u8], nodes: &mut [u8]) {
+fn buffers(to: Stdout, elements: &mut [u8], nodes: &mut [u8]) {
     let mut enough = [0u8; 4100];
     let mut short = [0u8; 4100];
-    with_buffer(elements, nodes, &mut short[..limits::OUTPUT - 1]);
-    with_buffer(elements, nodes, &mut enough);
+    with_buffer(to, elements, nodes, &mut short[..limits::OUTPUT - 1]);
+    with_buffer(to, elements, nodes, &mut enough);
 }
 
 // "Buffers too small for these limits get refusal 15, at the start and at any event that lends less": begin with this room, and an event for a session
 // that was begun with enough.
-fn with_room(session: Session, elements: &mut [u8], nodes: &mut [u8], out: &mut [u8]) -> Session {
-    say(b"room of ");
-    say_number(elements.len() as u64);
-    say(b" and ");
-    say_number(nodes.len() as u64);
-    say(b" bytes: query ");
+fn with_room(
+    to: Stdout,
+    session: Session,
+    elements: &mut [u8],
+    nodes: &mut [u8],
+    out: &mut [u8],
+) -> Session {
+    say(to, b"room of ");
+    say_number(to, elements.len() as u64);
+    say(to, b" and ");
+    say_number(to, nodes.len() as u64);
+    say(to, b" bytes: query ");
     let begun = begin_r(&*elements, &*nodes);
     let answer = begun.answer;
-    say_begun(answer);
+    say_begun(to, answer);
     let run = offer(start(session), OPENS, R, elements, nodes, out);
-    say(b"room of ");
-    say_number(elements.len() as u64);
-    say(b" and ");
-    say_number(nodes.len() as u64);
-    say(b" bytes: ");
-    say_run(run);
+    say(to, b"room of ");
+    say_number(to, elements.len() as u64);
+    say(to, b" and ");
+    say_number(to, nodes.len() as u64);
+    say(to, b" bytes: ");
+    say_run(to, run);
     run.session
 }
 
 // Room that is a byte short for the open elements.
-fn short_elements(session: Session, out: &mut [u8]) -> Session {
+fn short_elements(to: Stdout, session: Session, out: &mut [u8]) -> Session {
     let mut elements = [0u8; 16384];
     let mut nodes = [0u8; 32768];
     with_room(
+        to,
         session,
         &mut elements[..limits::ELEMENTS_ROOM - 1],
         &mut nodes,
@@ -321,10 +339,11 @@ fn short_elements(session: Session, out: &mut [u8]) -> Session {
 }
 
 // The same for the waiting nodes.
-fn short_nodes(session: Session, out: &mut [u8]) -> Session {
+fn short_nodes(to: Stdout, session: Session, out: &mut [u8]) -> Session {
     let mut elements = [0u8; 16384];
     let mut nodes = [0u8; 32768];
     with_room(
+        to,
         session,
         &mut elements,
         &mut nodes[..limits::NODES_ROOM - 1],
@@ -333,22 +352,23 @@ fn short_nodes(session: Session, out: &mut [u8]) -> Session {
 }
 
 // Too small, and then enough for the same session: "Refusals 1, 15 and 8 stop nothing".
-fn rooms(elements: &mut [u8], nodes: &mut [u8], out: &mut [u8]) {
+fn rooms(to: Stdout, elements: &mut [u8], nodes: &mut [u8], out: &mut [u8]) {
     let begun = begin_r(&*elements, &*nodes);
     let session = begun.session;
-    let once = short_elements(session, out);
-    let twice = short_nodes(once, out);
-    with_room(twice, elements, nodes, out);
+    let once = short_elements(to, session, out);
+    let twice = short_nodes(to, once, out);
+    with_room(to, twice, elements, nodes, out);
 }
 
-fn main() {
+fn main(rt: HostRuntime) {
+    let to = rt.stdout();
     let mut elements = [0u8; 16384];
     let mut nodes = [0u8; 32768];
     let mut out = [0u8; 4100];
-    r1(&mut elements, &mut nodes, &mut out);
-    r2(&mut elements, &mut nodes, &mut out);
-    nested(&mut elements, &mut nodes, &mut out);
-    queries(&elements, &nodes);
-    buffers(&mut elements, &mut nodes);
-    rooms(&mut elements, &mut nodes, &mut out);
+    r1(to, &mut elements, &mut nodes, &mut out);
+    r2(to, &mut elements, &mut nodes, &mut out);
+    nested(to, &mut elements, &mut nodes, &mut out);
+    queries(to, &elements, &nodes);
+    buffers(to, &mut elements, &mut nodes);
+    rooms(to, &mut elements, &mut nodes, &mut out);
 }

@@ -1,1 +1,3 @@
+#![tactic(auto)]
+
 // The XML that is read has no code here: everything is in specs/.

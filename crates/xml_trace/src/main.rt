@@ -1,11 +1,15 @@
 // Reads each text of `cases.bin` in blocks and with room for events as its header says, by the list in `names.txt`, and writes its event records and a
 // record that closes them: 255, the refusal or 0, 0, 0 and the byte that is refused in 4 bytes, high byte first, or 0.
+#![tactic(auto)]
+
 ghost use Rattle.std.specs.Prelude.{◌≤◌, length};
 
 use modes::Reader;
+use std::io::Stdout;
+use system::File;
 
-fn say(word: &[u8]) {
-    io::write_all(libc::STDOUT_FILENO, word);
+fn say(to: Stdout, word: &[u8]) {
+    system::write(to, word);
 }
 
 // More than there is, is all that there is.
@@ -19,7 +23,7 @@ fn at_most(wanted: usize, all: usize) -> usize
 }
 
 // How far a text is read.
-#[derive(Drop)]
+#[derive(Clone, Copy)]
 struct Trace {
     reader: Reader,
     taken: u64,
@@ -28,6 +32,7 @@ struct Trace {
 
 // One feed, from `at` on, and its events.
 fn feed_once(
+    to: Stdout,
     trace: Trace,
     text: &[u8],
     names: &[u8],
@@ -40,17 +45,18 @@ fn feed_once(
     let some = at_most(lent, out.len());
     let fed = reader::feed(reader, text, names, index, room, &mut out[..some]);
     let written = at_most(fed.written, some);
-    say(&out[..written]);
+    say(to, &out[..written]);
     let next = fed.reader;
     Trace {
         reader: next,
-        taken: std::num::wrapping_add_u64(trace.taken, fed.taken as u64),
+        taken: trace.taken.wrapping_add(fed.taken as u64),
         refusal: fed.refusal,
     }
 }
 
 // A block, in as many feeds as the room for events asks for; each takes a byte. Of a refused text nothing more is fed.
 fn feed_block(
+    to: Stdout,
     trace: Trace,
     text: &[u8],
     names: &[u8],
@@ -64,18 +70,15 @@ fn feed_block(
     let mut at: usize = 0;
     let mut left = text.len();
     while 0 < left && now.refusal == 0 && at < text.len() {
-        now = feed_once(now, &text[at..], names, index, room, out, lent);
-        at = at_most(
-            std::num::wrapping_sub_u64(now.taken, start) as usize,
-            text.len(),
-        );
+        now = feed_once(to, now, &text[at..], names, index, room, out, lent);
+        at = at_most(now.taken.wrapping_sub(start) as usize, text.len());
         left -= 1;
     }
     now
 }
 
 // What a header says: how many bytes the text has, how many are given at a time, and room for how many bytes of events.
-#[derive(Drop)]
+#[derive(Clone, Copy)]
 struct Case {
     length: usize,
     block: usize,
@@ -83,9 +86,9 @@ struct Case {
     there: bool,
 }
 
-fn next_case(fd: i32) -> Case {
+fn next_case(file: &File) -> Case {
     let mut header = [0u8; 8];
-    let n = io::read_full(fd, &mut header);
+    let n = system::read_full(file, &mut header);
     let length = lines::node_at(&header, 0) as usize;
     let both = lines::node_at(&header, 1) as usize;
     Case {
@@ -105,17 +108,18 @@ fn block_of(block: usize, fits: usize) -> usize {
 }
 
 // Some bytes of the text, as many as there is room for at most. Answers how many came.
-fn read_block(fd: i32, wanted: usize, text: &mut [u8]) -> usize
+fn read_block(file: &File, wanted: usize, text: &mut [u8]) -> usize
     ensures { (result ≤ wanted) × (result ≤ length text.new) }
 {
     let most = at_most(wanted, text.len());
-    let got = io::read_full(fd, &mut text[..most]);
+    let got = system::read_full(file, &mut text[..most]);
     at_most(got, most)
 }
 
 // A text, block by block.
 fn read_case(
-    fd: i32,
+    to: Stdout,
+    file: &File,
     case: Case,
     text: &mut [u8],
     names: &[u8],
@@ -133,27 +137,27 @@ fn read_case(
     let mut left = case.length;
     while 0 < left {
         let wanted = at_most(block, left);
-        let got = read_block(fd, wanted, text);
+        let got = read_block(file, wanted, text);
         if got == 0 {
             return trace;
         }
         left -= got;
-        trace = feed_block(trace, &text[..got], names, index, room, out, case.room);
+        trace = feed_block(to, trace, &text[..got], names, index, room, out, case.room);
     }
     trace
 }
 
-fn say_closing(refusal: u8, at: u64) {
+fn say_closing(to: Stdout, refusal: u8, at: u64) {
     let mut record = [255, refusal, 0, 0, 0, 0, 0, 0];
     record[4] = (at / 16777216 % 256) as u8;
     record[5] = (at / 65536 % 256) as u8;
     record[6] = (at / 256 % 256) as u8;
     record[7] = (at % 256) as u8;
-    say(&record);
+    say(to, &record);
 }
 
 // What the end of the text came to.
-fn say_end(trace: Trace) {
+fn say_end(to: Stdout, trace: Trace) {
     let reader = trace.reader;
     let finished = reader::finish(reader);
     let mut refusal = trace.refusal;
@@ -161,35 +165,36 @@ fn say_end(trace: Trace) {
         refusal = finished.refusal;
     }
     if refusal == 0 {
-        say_closing(0, 0);
+        say_closing(to, 0, 0);
     } else {
-        say_closing(refusal, std::num::wrapping_add_u64(trace.taken, 1));
+        say_closing(to, refusal, trace.taken.wrapping_add(1));
     }
 }
 
 // Nothing says that a file ends. So the loop counts the cases up to a number that no file has.
-fn read_all(fd: i32, names: &[u8], index: &[u32]) {
+fn read_all(to: Stdout, file: &File, names: &[u8], index: &[u32]) {
     let mut text = [0u8; 65536];
     let mut room = [0u8; 18496];
     let mut out = [0u8; 65536];
-    let mut case = next_case(fd);
+    let mut case = next_case(file);
     let mut number: u64 = 0;
     while case.there && number < u64::MAX {
-        let trace = read_case(fd, case, &mut text, names, index, &mut room, &mut out);
-        say_end(trace);
-        case = next_case(fd);
+        let trace = read_case(to, file, case, &mut text, names, index, &mut room, &mut out);
+        say_end(to, trace);
+        case = next_case(file);
         number += 1;
     }
 }
 
-fn main() {
+fn main(rt: HostRuntime) {
+    let to = rt.stdout();
     let mut names = intake::names_room();
     let mut index = intake::index_room();
-    let n = intake::read_names(&mut names);
+    let n = intake::read_names(&rt, &mut names);
     let listing = names::build(&names[..n], &mut index);
     if listing.refusal == 0 {
-        let fd = os::open_read(b"cases.bin");
-        read_all(fd, &names[..n], &index);
-        libc::close(fd);
+        let file = system::open(&rt, b"cases.bin");
+        read_all(to, &file, &names[..n], &index);
+        system::close(file);
     }
 }

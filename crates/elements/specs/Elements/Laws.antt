@@ -68,7 +68,8 @@ module _ (P : Plan) (news at : ℕ) (E : Elements) (some : 0 < at) (fits : at �
       risen_by' r gs = record { top = length r.kept; elements = with ((r.kept ++ r.risen) ++ gs) E }
 
 -- by what is read of the element: old is met in its content, and its name passes `pass`
-module _ (P : Plan) (news at : ℕ) (bs : List ℕ) (old : ℕ) (some : 0 < at) (fits : at ≤ depth_limit) (eo : old ≡ (frame_at (elements_in bs) (at - 1)).below) where
+module _
+    (P : Plan) (news at : ℕ) (bs : List ℕ) (old : ℕ) (some : 0 < at) (fits : at ≤ depth_limit) (eo : old ≡ (frame_at (elements_in bs) (at - 1)).below) where
   in_list : at ≤ length (elements_in bs).list
   in_list = omega (arith, frames_length bs)
 

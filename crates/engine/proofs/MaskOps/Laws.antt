@@ -31,15 +31,17 @@ use Rattle.engine.proofs.Every.{every_map}
 use Rattle.engine.specs.Need as Need
 use Rattle.engine.specs.Need.{Need, itself, one_of, wanted}
 use Rattle.engine.specs.Engine.{open_model, close_model}
-use Rattle.engine.proofs.Hom.{Hom, state_in, open_hom, close_hom}
+use Rattle.engine.specs.Hom.{Hom, state_in}
+use Rattle.engine.proofs.Hom.{open_hom, close_hom}
 use Rattle.engine.specs.StateOf.{ops, state_of}
 use Rattle.engine.proofs.StateOf.Theorem.{open_state, open_out, close_state, close_out_lem}
 use Rattle.plan.specs.Order.{predicates, back_path, order, at, mask}
 use Rattle.plan.specs.Order.Mask.{member_mask, at_and, mask_join, mask_meet, mask_none, overlaps_mask, meet_prefix, mask_agree, mask_of_listed}
 use Rattle.plan.specs.Order.All.{path_main, any_main, all_order, main_mask}
-use Rattle.plan.specs.Order.Path.{Linked, path_linked, given_at, given_first, given_shift, wanted_at, wanted_first, wanted_shift, first_alone, last_main_positive}
+use Rattle.plan.specs.Order.Path.{Linked, path_linked, given_at, given_first, given_shift, wanted_at, wanted_first, wanted_shift}
+use Rattle.plan.specs.Order.Path.{first_alone, last_main_positive}
 use Rattle.plan.specs.Plan.{Plan, plan, named, meets, lift, turn, last_given, up_if}
-use Rattle.plan.proofs.Plan.Laws.{meets_predicates}
+use Rattle.plan.proofs.Masks.{meets_predicates}
 use Rattle.engine.specs.MaskOps.{value, up, mask_ops, need_mask, masks, mask_state}
 
 module _ (q : Query) where

@@ -15,7 +15,7 @@ use Rattle.plan.specs.Any.{sets_ext}
 use Rattle.engine.specs.Need.{NeedOf}
 use Rattle.engine.specs.Engine.{Ops, Frame}
 use Rattle.engine.specs.StateOf.{ops, frames_of, frames_at, state_of}
-use Rattle.engine.proofs.Hom.{Coat, frame_in, Hom}
+use Rattle.engine.specs.Hom.{Coat, frame_in, Hom}
 use Rattle.plan.specs.Plan.{plan}
 use Rattle.engine.specs.MaskOps.{mask_ops, masks, mask_state}
 use Rattle.engine.proofs.MaskOps.Laws.{mask_hom}

@@ -23,7 +23,8 @@ use Rattle.engine.proofs.Every.{Every, e_nil, e_cons, every_head, every_map, eve
 use Rattle.engine.specs.Need.{NeedOf, Need}
 use Rattle.engine.specs.Engine as Engine
 use Rattle.engine.specs.Engine.{Ops, keep_if, keep, front, past, grow, possibles, stands, alive, settle, open_model}
-use Rattle.engine.proofs.Hom.{waiting_in, front_hom, past_hom, certain_hom, alive_hom, newcomer_hom}
+use Rattle.engine.specs.Hom.{waiting_in}
+use Rattle.engine.proofs.Hom.{front_hom, past_hom, certain_hom, alive_hom, newcomer_hom}
 use Rattle.engine.specs.StateOf.{ops, frames_at, nodes, state_of}
 use Rattle.engine.proofs.StateOf.Standings.{inside}
 use Rattle.engine.proofs.StateOf.Theorem.{nodes_open}
@@ -32,7 +33,7 @@ use Rattle.engine.specs.MaskOps.{value, mask_ops, masks, mask_state}
 use Rattle.engine.proofs.MaskOps.Laws.{meets_plain, mask_hom, mask_open}
 use Rattle.engine.specs.Quick.{Frame, Waiting, met_at, sure_at, possible_at, certain_if, certain, counted}
 use Rattle.engine.specs.Quick.{Rise, rise, refreshed, refresh, fresh, frames_after}
-use Rattle.engine.specs.Quick.{Opening, went_if, judged, opening_from, opening, newcomer, queue_after, out_after}
+use Rattle.engine.specs.Quick.{Opening, went_if, judged, opening_from, opening, queue_after, out_after}
 use Rattle.engine.specs.Quick.Of.{frame_shown, waiting_shown, quick_state}
 use Rattle.engine.proofs.Quick.Lists.{counted_hom, counted_same, snoc_queue, keep_append, keep_whole}
 use Rattle.engine.proofs.Quick.Kept.{fed_masks, Turned, turned_masks}
@@ -47,7 +48,7 @@ module _ {S B R N : Type 0} (O : Ops S B R N) (y : Node) where
   length_grow : (rs rp : R) (fs : List (Engine.Frame B R)) → length (grow O y rs rp fs) ≡ suc (length fs)
   unfolding grow
   length_grow rs rp [] = refl
-  length_grow rs rp (f ∷ fs) = ap suc (length_grow _ _ fs)
+  length_grow rs rp (f ∷ fs) = ap suc (length_grow (O.turn (O.meets f.node (O.join f.below (Engine.rise O y fs))) rs) f.possible fs)
 
   new_poss : R → R → List (Engine.Frame B R) → R
   new_poss d rp fs = O.turn (O.named y) (get_or (rp ∷ map (λ f. f.possible) fs) (length fs) d)
@@ -58,7 +59,7 @@ module _ {S B R N : Type 0} (O : Ops S B R N) (y : Node) where
       map (λ f. f.possible) (grow O y rs rp fs) ≡ map (λ f. f.possible) fs ++ (new_poss d rp fs ∷ [])
   unfolding grow new_poss
   grow_possible d rs rp [] = refl
-  grow_possible d rs rp (f ∷ fs) = ap (◌∷◌ f.possible) (grow_possible d _ f.possible fs)
+  grow_possible d rs rp (f ∷ fs) = ap (◌∷◌ f.possible) (grow_possible d (O.turn (O.meets f.node (O.join f.below (Engine.rise O y fs))) rs) f.possible fs)
 
 module _ (P : Plan) (y : Node) where
   grow_met :
@@ -66,7 +67,8 @@ module _ (P : Plan) (y : Node) where
       met_at (map (frame_shown P) (grow (mask_ops P) y rs rp fs)) (suc (length fs)) ≡ meets P (named P y.name) 0
   unfolding grow met_at
   grow_met rs rp [] = refl
-  grow_met rs rp (f ∷ fs) = grow_met _ f.possible fs
+  grow_met rs rp (f ∷ fs) =
+      grow_met ((mask_ops P).turn (meets P (named P f.node.name) ((mask_ops P).join f.below (Engine.rise (mask_ops P) y fs))) rs) f.possible fs
 
 -- one more frame changes nothing at the levels before it
 

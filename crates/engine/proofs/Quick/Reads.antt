@@ -25,10 +25,10 @@ use Rattle.engine.specs.Engine.{keep, past}
 use Rattle.engine.specs.StateOf.{frames_of, places, number, frames_at, nodes, state_of}
 use Rattle.engine.proofs.StateOf.Standings.{queue_held}
 use Rattle.plan.specs.Plan.{plan}
-use Rattle.plan.proofs.Plan.Laws.{plan_size, meets_under}
-use Rattle.engine.proofs.Hom.{frame_in, waiting_in}
+use Rattle.plan.proofs.Masks.{plan_size, meets_under}
+use Rattle.engine.specs.Hom.{frame_in, waiting_in}
 use Rattle.engine.specs.MaskOps.{masks, mask_state}
-use Rattle.engine.specs.Quick.{Frame, Waiting, begun, name_at, met_at}
+use Rattle.engine.specs.Quick.{Waiting, begun, name_at, met_at}
 use Rattle.engine.specs.Quick.Of.{frame_shown, waiting_shown, quick_state}
 use Rattle.engine.proofs.Quick.Lists.{layers_low}
 use Rattle.engine.proofs.Quick.Waits.{queue_layers, length_masks}

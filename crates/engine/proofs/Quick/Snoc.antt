@@ -19,7 +19,7 @@ use mathlib.Core.List.{List, [], ◌∷◌, ◌++◌, map}
 use Rattle.std.proofs.Math.ListN.{length-append}
 use Rattle.std.proofs.lemmas.List.{length-map}
 use Rattle.sets.specs.Set.{join, overlaps}
-use Rattle.plan.specs.Plan.{Plan, meets, lift}
+use Rattle.plan.specs.Plan.{Plan, meets, lift, turn}
 use Rattle.engine.specs.Engine.{keep}
 use Rattle.engine.specs.Quick.{Frame, Waiting, certain, counted_if, counted, Rise, raised, rise_if, rise_at, rise, refresh, fresh}
 use Rattle.engine.specs.Quick.{frames_after, sure_at, possible_at, went_if, cut_if, cut, moved, stay}
@@ -93,7 +93,7 @@ module _ (P : Plan) where
   pub length_refresh : (s : ℕ) (fs : List Frame) → length (refresh P s fs) ≡ length fs
   unfolding refresh
   length_refresh s [] = refl
-  length_refresh s (f ∷ fs) = ap suc (length_refresh _ fs)
+  length_refresh s (f ∷ fs) = ap suc (length_refresh (turn P f.met s) fs)
 
   pub frames_after_length : (n a : ℕ) (fs : List Frame) → length (frames_after P n fs (rise P a fs)) ≡ length fs + 1
   unfolding frames_after

@@ -29,7 +29,8 @@ use Rattle.engine.specs.StateOf.{ops, frames_of, here, deeper, places, number, f
 use Rattle.engine.proofs.StateOf.Frames.{length_frames}
 use Rattle.engine.proofs.StateOf.Standings.{certain_sure}
 use Rattle.engine.proofs.StateOf.Theorem.{shift, nodes_close}
-use Rattle.engine.proofs.Hom.{frame_in, waiting_in, certain_hom, alive_hom, moves_hom}
+use Rattle.engine.specs.Hom.{frame_in, waiting_in}
+use Rattle.engine.proofs.Hom.{certain_hom, alive_hom, moves_hom}
 use Rattle.plan.specs.Plan.{Plan, plan}
 use Rattle.engine.specs.MaskOps.{value, mask_ops, need_mask, masks, mask_state}
 use Rattle.engine.proofs.MaskOps.Laws.{mask_hom}
@@ -66,7 +67,7 @@ places_layers q (within p x d) =
     layers_here _ (needs q p) (l_cons {x = deeper (here itself)} (zero_le 1) (up_le (zero_le (depth d))) (layers_deeper (places_layers q d)))
 
 layers_number :
-    (i : ℕ) {hi lo : ℕ} {xs : List (Place Need)} → Layers (λ x. x.level) hi lo xs → Layers (λ w. w.place.level) hi lo (number i xs)
+    {hi lo : ℕ} (i : ℕ) {xs : List (Place Need)} → Layers (λ x. x.level) hi lo xs → Layers (λ w. w.place.level) hi lo (number i xs)
 unfolding number
 layers_number i l_nil = l_nil
 layers_number i (l_cons {x} a b t) = l_cons {x = record { number = i; place = x }} a b (layers_number (suc i) t)

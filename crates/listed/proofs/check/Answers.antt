@@ -1,9 +1,7 @@
 -- `check` goes through the lines; the first at fault decides. The invariant: the answer to the lines from here on is that to the list.
 -- Assumes nothing.
-use Prim.Native.Nat.{◌-◌}
 use native.Mathlib.Omega.{arith}
 use mathlib.Core.Path.{refl, sym, ◌∙◌}
-use Rattle.xml.specs.Bounds.{list_limit}
 use Rattle.xml.proofs.Bounds.Laws.{list_limit_is}
 use Rattle.listed.specs.Lines.Laws.{line_ends}
 use Rattle.listed.specs.Listed.{list_answer}
@@ -14,22 +12,12 @@ pub loop-at-init : goal.loop-at-init
 unfolding list_answer
 loop-at-init c = (omega arith, refl)
 
-pub slice_bounds-fault_of-end : goal.slice_bounds-fault_of-end
-slice_bounds-fault_of-end c = omega (arith, line_ends c.args.names.now c.loop-at.at (omega arith))
-
 pub returns-then-fault-ne0 : goal.returns-then-fault-ne0
 returns-then-fault-ne0 c =
     let names = c.args.names.now in
     let ends = c.line_end-end.ensures in
     sym (turn_stops names c.loop-at.at _ c.loop-at.place _ (omega arith) ends c.fault_of-fault.ensures c.if-fault-ne0.true)
     ∙ c.loop-at.invariant.1
-
-pub overflow_add-place : goal.overflow_add-place
-overflow_add-place c = omega (arith, list_limit_is)
-
-pub overflow_add-at : goal.overflow_add-at
-overflow_add-at c =
-    omega (arith, line_ends c.args.names.now c.loop-at.at (omega arith))
 
 pub loop-at-preserved : goal.loop-at-preserved
 loop-at-preserved c =
@@ -43,6 +31,12 @@ loop-at-preserved c =
 pub returns : goal.returns
 returns c =
     sym (turns_done c.args.names.now c.loop-at.at c.loop-at.place (omega arith)) ∙ c.loop-at.invariant.1
+
+pub slice_bounds-fault_of-end : goal.slice_bounds-fault_of-end
+slice_bounds-fault_of-end c = omega (arith, line_ends c.args.names.now c.loop-at.at (omega arith))
+
+pub overflow_add-place : goal.overflow_add-place
+overflow_add-place c = omega (arith, list_limit_is)
 
 pub overflow_cast-result : goal.overflow_cast-result
 overflow_cast-result c = omega (arith, list_limit_is)

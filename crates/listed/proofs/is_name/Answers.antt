@@ -1,6 +1,5 @@
 -- `is_name` looks at the first byte, and at the others one by one. The invariant: the bytes from here on decide.
 -- Assumes nothing.
-use Prim.Native.Nat.{◌-◌}
 use native.Mathlib.Omega.{arith}
 use mathlib.Core.Path.{sym, ◌∙◌}
 use Rattle.xml.specs.Chars.{name_char}

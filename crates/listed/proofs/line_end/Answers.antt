@@ -1,26 +1,12 @@
 -- `line_end` looks for the line feed byte by byte. The invariant: the line ends where it would if it began here.
 -- Assumes nothing.
-use Prim.Native.Nat.{◌-◌}
 use native.Mathlib.Omega.{arith}
 use mathlib.Core.Path.{refl}
-use Rattle.listed.specs.Lines.Laws.{line_stops, line_goes_on, line_done}
+use Rattle.listed.specs.Lines.Laws.{line_goes_on, line_done}
 use Rattle.listed.proofs.line_end.Goals as goal
 
 pub loop-end-init : goal.loop-end-init
 loop-end-init c = (omega arith, refl)
-
-pub bounds-names-end : goal.bounds-names-end
-bounds-names-end c = omega arith
-
-pub returns-then-names-end-eq10 : goal.returns-then-names-end-eq10
-returns-then-names-end-eq10 c =
-    omega (arith, line_stops c.args.names.now c.loop-end.end (omega arith) c.if-names-end-eq10.true)
-
-pub overflow_add-end : goal.overflow_add-end
-overflow_add-end c = omega arith
-
-pub loop-end-smaller : goal.loop-end-smaller
-loop-end-smaller c = omega arith
 
 pub loop-end-preserved : goal.loop-end-preserved
 loop-end-preserved c =

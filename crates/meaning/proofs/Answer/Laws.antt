@@ -19,7 +19,7 @@ use Rattle.std.specs.Prelude.{ℕ, ◌≤◌, ◌<◌, ◌≡◌, refl, Bool, fa
 use Rattle.std.proofs.Common.{arith, sym, ap₂, ◌∙◌, le-ltb, lt-ltb}
 use Rattle.std.proofs.Math.Path.{ap, subst}
 use Rattle.std.proofs.Math.Bool.{true, or-false}
-use mathlib.Core.List.{List, [], ◌∷◌, ◌++◌, append-nil, append_assoc, Memᴰ}
+use mathlib.Core.List.{List, [], ◌∷◌, ◌++◌, append-nil, append_assoc}
 use Rattle.std.proofs.Math.Option.{Option, none, some}
 use Rattle.std.proofs.Math.Dec.{T}
 use Rattle.std.proofs.Math.ListN.{length}
@@ -40,7 +40,7 @@ use Rattle.meaning.proofs.Demands.{list_grows}
 use Rattle.meaning.specs.Refusals.{short_output, short_room, already_stopped, unfinished, rank_if, rank, stops}
 use Rattle.meaning.proofs.Refusals.Laws.{rank_one}
 use Rattle.meaning.proofs.Table.Laws.{in_order, Outcome, first_is, none_is, first_outcome}
-use Rattle.meaning.specs.Answer.{Lent, enough, Call, event, finish, Answer, refused, taken, ended, Past, going, stopped_by, Refusal, refusal, is_bad}
+use Rattle.meaning.specs.Answer.{Lent, enough, Call, event, finish, Answer, refused, taken, ended, Past, going, stopped_by, Refusal, is_bad}
 use Rattle.meaning.specs.Answer.{closes_wrong, act_if, too_small, event_refusals, finish_refusals, refusals, first_or, first, yield, answer_if, answer}
 use Rattle.meaning.specs.Answer.{events_of, call_events, after_if, after, answers, after_all, handed_by, handed_out}
 use Rattle.meaning.specs.Answer.Laws.{Applies, Gives, refuses, yields}

@@ -10,7 +10,7 @@
 use Rattle.std.specs.Prelude.{ℕ, suc, pred, ◌+◌, ◌≤◌, ◌↔◌, ◌≡◌, refl, T, eqb}
 use Rattle.std.proofs.Common.{arith, ap, subst, eqb→eq}
 use Rattle.std.proofs.Math.Dec.{eqb_refl}
-use Rattle.meaning.specs.Document.{Node, Row, nil, el, Doc, done, within, opened, closed, count_row, count, depth, finished, ends_at}
+use Rattle.meaning.specs.Document.{Node, nil, el, Doc, done, within, opened, closed, count_row, count, depth, finished, ends_at}
 use Rattle.meaning.specs.Document.Laws.{Innermost, just_around, further_in}
 
 pub depth_opened : (y : Node) (d : Doc) → depth (opened y d) ≡ suc (depth d)

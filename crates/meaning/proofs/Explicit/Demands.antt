@@ -12,17 +12,16 @@
 --   neither_exactly          an opened node is neither listed nor held exactly if no continuation selects it
 --
 -- Assumes `T (admits q)`, the query rules, and `Stream es`. The same words over the computed selection are in Demands.
-use Rattle.std.specs.Prelude.{ℕ, ◌≤◌, ◌<◌, ◌↔◌, T}
+use Rattle.std.specs.Prelude.{ℕ, ◌↔◌, T}
 use mathlib.Core.List.{List, ◌++◌, Memᴰ}
 use Rattle.meaning.specs.Query.{Query, admits}
 use Rattle.meaning.specs.Selection.{sure-reading}
-use Rattle.meaning.specs.Stream.{Event, document, Stream, Finishes}
+use Rattle.meaning.specs.Stream.{Event, document, Stream}
 use Rattle.meaning.specs.Continuation as computed
 use Rattle.meaning.specs.Continuation.{Opened}
 use Rattle.meaning.specs.Standing.{listed, held, ruled_out_nodes}
 use Rattle.meaning.specs.Demands as demands
 use Rattle.meaning.proofs.Demands as shown
-use Rattle.meaning.specs.Explicit.{Selected}
 use Rattle.meaning.proofs.Explicit.Ways.{selected_explicit}
 use Rattle.meaning.specs.Explicit.Demands.{SelectedBy, SelectedBySome, SelectedByNone, Undecided, ListedBy, HeldBy}
 

@@ -17,7 +17,6 @@ use Rattle.meaning.specs.Logic.{Monotone, Imp, Pmi, imp, pmi, imp_or_l, imp_and_
 use Rattle.meaning.specs.Logic.{pre_more, Both, b_nil, b_cons, both_pre, both_append, pre_append}
 use Rattle.meaning.specs.Query.{Step, Query, Steps, any_step, all_step, hangs, goes_deep, last_main}
 use Rattle.meaning.specs.Document.{Node, Row, nil, el, Doc, done, within, opened, closed, count_row, count}
-use Rattle.meaning.proofs.Selection.Examples
 use Rattle.meaning.specs.Selection.{Reading, sure-reading, open-reading, granted, named, meets, lift, join}
 use Rattle.meaning.specs.Selection.{met_row, met, Ready, given, turn, start, marks_row, marks, selections}
 

@@ -6,7 +6,6 @@
 --
 -- Assumes nothing. What is shown of them is in proofs/Answer/Stop.
 use Rattle.std.specs.Prelude.{ℕ, ◌≤◌, ◌⊎◌, ◌≡◌}
-use mathlib.Core.List.Memᴰ
 use mathlib.Core.List.{List, Memᴰ}
 use Rattle.meaning.specs.Answer.{Answer, refused}
 

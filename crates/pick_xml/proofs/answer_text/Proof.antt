@@ -2,7 +2,7 @@
 use native.Mathlib.Omega.{arith}
 use mathlib.Core.Logic.{inl, inr}
 use mathlib.Core.Path.{refl}
-use Rattle.lines.specs.Put.Laws.{put_taken}
+use Rattle.lines.proofs.Put.Laws.{put_taken}
 use Rattle.pick_xml.specs.Program.Laws.{picked_lined}
 use borrow.Author.Rules.{rules}
 use Rattle.pick_xml.proofs.answer_text.Statement.{statement}

@@ -34,7 +34,7 @@ use Rattle.session.specs.declared.Finish.{Finish}
 use Rattle.session.specs.Begin.{said}
 use Rattle.session.specs.Event.{finish}
 use Rattle.lines.specs.Put.{Put}
-use Rattle.lines.specs.Put.Laws.{put_taken}
+use Rattle.lines.proofs.Put.Laws.{put_taken}
 use Rattle.lines.specs.Text.{lines_of, refused_at_line}
 use Rattle.system.specs.declared.File.{File}
 use Rattle.system.specs.Marks.{FileOpened, FileClosed, ReadOver, WriteTold, ReadFull, received, nothing_yet, Delivered, delivered, none_yet}

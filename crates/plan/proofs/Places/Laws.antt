@@ -32,6 +32,7 @@ stands_under s_here = suc-le-suc zero-le
 stands_under (s_there s) = suc-le-suc (stands_under s)
 
 pub stands_every : {F : Numbered → Type 0} {ps : List Numbered} {t : ℕ} {p : Numbered} → Every F ps → StandsAt ps t p → F p
+stands_every e_nil s = elim s [ ]
 stands_every (e_cons a t) s_here = a
 stands_every (e_cons a t) (s_there s) = stands_every t s
 
@@ -144,6 +145,7 @@ pub data Distinct : List Numbered → Type 0 where
 pub distinct_once :
     {ps : List Numbered} {t u : ℕ} {p r : Numbered} → Distinct ps → StandsAt ps t p → StandsAt ps u r → p.number ≡ r.number →
     t ≡ u
+distinct_once d_nil s _ e = elim s [ ]
 distinct_once (d_cons a d) s_here s_here e = refl
 distinct_once (d_cons a d) s_here (s_there s) e = absurd (stands_every a s e)
 distinct_once (d_cons a d) (s_there s) s_here e = absurd (stands_every a s (sym e))

@@ -94,15 +94,18 @@ linked_some h (ends e) = absurd (omega arith)
 linked_some h (links e d k l) = suc-le-suc zero-le
 
 linked_last : {near : ℕ} {ps : List Numbered} {p : Numbered} → Linked near ps → StandsAt ps 0 p → p.number ≡ near
+linked_last (ends _) s = elim s [ ]
 linked_last (links e d k l) s_here = sym e
 
 linked_next :
     {near t : ℕ} {ps : List Numbered} {p r : Numbered} → Linked near ps → StandsAt ps (suc t) p → StandsAt ps t r →
     r.step.parent ≡ p.number
+linked_next (ends _) s _ = elim s [ ]
 linked_next (links e d k l) (s_there s) s_here = d ∙ sym (linked_last l s)
 linked_next (links e d k l) (s_there s) (s_there u) = linked_next l s u
 
 linked_start : {near t : ℕ} {ps : List Numbered} {p : Numbered} → Linked near ps → suc t ≡ length ps → StandsAt ps t p → p.step.parent ≡ 0
+linked_start (ends _) l s = elim s [ ]
 linked_start (links e d k (ends none)) l s_here = d ∙ none
 linked_start (links e d k (links e' d' k' l')) l s_here = absurd (omega arith)
 linked_start (links e d k r) l (s_there s) = linked_start r (omega arith) s

@@ -26,7 +26,7 @@ use Rattle.plan.specs.Order.Mask.{member_mask, mask_front, any_mask}
 use Rattle.plan.specs.Order.All.{predicates_main, any_order, all_any}
 use Rattle.plan.specs.Plan as Of
 use Rattle.plan.specs.Plan.{plan}
-use Rattle.plan.proofs.Plan.Laws.{plan_size, plan_first}
+use Rattle.plan.proofs.Masks.{plan_size, plan_first}
 use Rattle.plan.specs.Places.{StandsAt, mains, OrderRight, PlanRight}
 use Rattle.plan.proofs.Places.Laws.{stands_some, stands_kept, at_stands, at_past, order_length}
 use Rattle.plan.proofs.Places.Order.{order_right}

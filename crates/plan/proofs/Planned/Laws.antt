@@ -23,7 +23,7 @@ use Rattle.query.proofs.Decode.Laws.{decode_length, meant}
 use Rattle.sets.specs.Table.{length_table_of}
 use Rattle.plan.specs.Order.{order}
 use Rattle.plan.specs.Plan.{plan}
-use Rattle.plan.proofs.Plan.Laws.{plan_size}
+use Rattle.plan.proofs.Masks.{plan_size}
 use Rattle.plan.specs.Places.{OrderRight, PlanRight}
 use Rattle.plan.proofs.Places.Laws.{order_length}
 use Rattle.plan.proofs.Places.Order.{order_right}

@@ -45,14 +45,14 @@ module _ (q : List ℕ) where
 
 module _ (kept : Numbered → ℕ) (zs : List ℕ) where
   pub read_table :
-      {ps : List Numbered} (f : ℕ → ℕ) (g : Numbered → ℕ) → Every (λ p. f (kept p) ≡ g p) ps →
+      (f : ℕ → ℕ) (g : Numbered → ℕ) {ps : List Numbered} → Every (λ p. f (kept p) ≡ g p) ps →
       table_of (length ps) (λ t. f (get_or (map kept ps ++ zs) t 0)) ≡ map g ps
   unfolding table_of
   read_table f g e_nil = refl
   read_table f g (e_cons e t) = ap₂ ◌∷◌ e (read_table f g t)
 
   pub read_mask :
-      {ps : List Numbered} (test : ℕ → Bool) (A : Steps) → Every (λ p. test (kept p) ≡ A p.step p.number) ps →
+      (test : ℕ → Bool) (A : Steps) {ps : List Numbered} → Every (λ p. test (kept p) ≡ A p.step p.number) ps →
       mask_of (length ps) (λ t. test (get_or (map kept ps ++ zs) t 0)) ≡ mask ps A
   unfolding mask_of at mask
   read_mask test A e_nil = refl

@@ -105,15 +105,15 @@ meet_prefix ps rs A B = same_members _ _ (λ t. simp (member_meet, member_mask) 
 abbrev pub Agree : Steps → Steps → Numbered → Type 0
 Agree A B p = A p.step p.number ≡ B p.step p.number
 
-pub mask_agree : {ps : List Numbered} (A B : Steps) → Every (Agree A B) ps → mask ps A ≡ mask ps B
+pub mask_agree : (A B : Steps) {ps : List Numbered} → Every (Agree A B) ps → mask ps A ≡ mask ps B
 unfolding mask mask_of at
 mask_agree A B e_nil = refl
-mask_agree A B (e_cons {x = p} {xs = ps} e t) = ap₂ (λ x b. x * 2 + bit b) (mask_agree {ps = ps} A B t) e
+mask_agree A B (e_cons {x = p} e t) = ap₂ (λ x b. x * 2 + bit b) (mask_agree A B t) e
 
-pub any_agree : {ps : List Numbered} (A B : Steps) → Every (Agree A B) ps → any_of ps A ≡ any_of ps B
+pub any_agree : (A B : Steps) {ps : List Numbered} → Every (Agree A B) ps → any_of ps A ≡ any_of ps B
 unfolding any_of
 any_agree A B e_nil = refl
-any_agree A B (e_cons {x = p} {xs = ps} e t) = ap₂ ◌||◌ e (any_agree {ps = ps} A B t)
+any_agree A B (e_cons {x = p} e t) = ap₂ ◌||◌ e (any_agree A B t)
 
 pub mask_front :
     (ps : List Numbered) {rs : List Numbered} (A : Steps) → Every (λ p. A p.step p.number ≡ false) rs →

@@ -13,7 +13,6 @@ use Rattle.std.proofs.Math.Path.{refl, sym, ap, ap₂}
 use Rattle.std.proofs.Math.ListN.{set}
 use Rattle.std.proofs.Math.Seq.{sets}
 use Rattle.plan.specs.declared.Plan as struct
-use Rattle.plan.specs.Plan.{Plan}
 use Rattle.sets.specs.Set.{member, meet, mask_of}
 use Rattle.sets.proofs.Set.Of.{mask_of_under, mask_of_all, mask_of_cut}
 use Rattle.sets.proofs.Collect.{one_shift}

@@ -22,7 +22,7 @@ use Rattle.plan.specs.Places.{numbered}
 use Rattle.plan.proofs.Places.Laws.{order_length, every_order}
 use Rattle.plan.proofs.Places.Plan.{first_order}
 use Rattle.plan.specs.Plan.{Plan, plan}
-use Rattle.plan.proofs.Plan.Laws.{plan_size}
+use Rattle.plan.proofs.Masks.{plan_size}
 use Rattle.plan.specs.Asked.{stars_of}
 use Rattle.plan.specs.Planned.{size_of, planned, zeros, filled, bucket_count, columns, plan_of}
 use Rattle.plan.proofs.Planned.Laws.{planned_all, plan_hung}

@@ -44,7 +44,7 @@ use Rattle.node.specs.Node as node
 use Rattle.node.specs.Node.{Queue, queue_in}
 use Rattle.numbers.specs.Numbers.{Numbers}
 use Rattle.step.specs.Step.{After, step}
-use Rattle.step.proofs.Step.Left.{step_still}
+use Rattle.step.proofs.Steps.Left.{step_still}
 use Rattle.stop.specs.Stop.{marked, guarded}
 use Rattle.stop.specs.Stop.Laws.{marked_same, guarded_stopped, guarded_going}
 use Rattle.right.specs.Used.{state_in, same_state}

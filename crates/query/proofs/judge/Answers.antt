@@ -1,6 +1,5 @@
 -- `judge` answers as the first step that breaks a rule decides. The invariant: the next record starts after those passed, `near`
 -- is the nearest main-path step among them, and the answer from here on is the query's. Assumes nothing.
-use Prim.Native.Nat.{◌-◌}
 use mathlib.Core.Path.{refl}
 use native.Mathlib.Omega.{arith}
 use Rattle.query.specs.Rules.{nearest}

@@ -7,18 +7,15 @@
 -- Assumes nothing.
 use Rattle.std.specs.Prelude.{ℕ, ◌≡◌, refl, Bool, true, false, List, [], ◌∷◌, ◌++◌, T}
 use Rattle.std.proofs.Common.{sym, ap, ◌∙◌, subst, append_assoc, append-nil}
-use Rattle.std.proofs.Math.Option.{none}
+use Rattle.std.proofs.Math.Option.{Option}
 use Rattle.xml.specs.Class.{Rows, OneOf, word, words, waiting, all_apart, apart_from, apart, disjoint, out_of, disjoint_ranges, all_spelled, spelled}
 use Rattle.xml.specs.Class.{some_byte, some_row, filled}
 use Rattle.xml.proofs.Class.Laws.{one_word, word_waiting}
 use Rattle.xml.specs.Chars.{quote}
-use Rattle.xml.specs.Refused
-use Rattle.xml.specs.Grammar
-use Rattle.xml.specs.Grammar.{Limits, Ev, Br, Part, version, encoding, standalone, part_values, Each, wide, reference, Remarked, comment, Run, Name}
+use Rattle.xml.specs.Grammar.{Limits, Ev, Br, Part, version, encoding, standalone, part_values, Each, Eq, wide, reference, Remarked, comment, Run, Name}
 use Rattle.xml.specs.Grammar.{name, Misc, decl, part, prolog}
-use Rattle.xml.specs.Machine
 use Rattle.xml.specs.Machine.{Place, State}
-use Rattle.xml.specs.Unfinished.{Late, At, before, inside, named}
+use Rattle.xml.specs.Unfinished.{Late, At, InDecl, before, inside, named}
 use Rattle.reading.specs.Account.{plus, part_first, part_rest, name_parts, Refers, Reads, Due, Begun, After}
 use Rattle.reading.specs.Account.Grows.{move_at, at_note, at_empty, at_refer, at_grow, value_char, value_ref, open_name, greater_late}
 
@@ -56,6 +53,14 @@ module _ (L : Limits) where
   reads_done (Reads.amper (Refers.value v)) w o = move (After.value (value_ref L v (reference o))) (simp append_assoc)
   reads_done (Reads.bang {t = t} a) w o = worded (t ++ (60 ∷ 33 ∷ [])) (45 ∷ 45 ∷ []) (move (After.note a Remarked.none) (simp append_assoc)) w o
 
+  valued :
+      {o : Option Part} {k : Part} {t u w : List ℕ} (q : Bool)
+      → InDecl o k t
+      → Eq u
+      → OneOf (part_values k (quote q)) w
+      → After L ((t ++ (u ++ (quote q ∷ []))) ++ w) [] (State.told k)
+  valued {k = k} q (named m d x f) e h = move (After.told m (part k q d x f e h)) (simp append_assoc)
+
   pub due_done :
       {t : List ℕ} {es fs : List Ev} {rs : Rows} {r : ℕ} {k : State} → Due L t es rs r fs k → (w : List ℕ) → OneOf rs w → After L (t ++ w) (plus es fs) k
   due_done Due.mark w o = worded (239 ∷ []) (187 ∷ 191 ∷ []) After.fresh w o
@@ -73,7 +78,7 @@ module _ (L : Limits) where
   due_done (Due.name {k = k} {t = t} {u = u} {v = v} m d x f) w o =
       worded (t ++ (u ++ (v ++ (part_first k ∷ [])))) (part_rest k)
       (move (After.part_eq (named m d x f) Each.none) (ap (λ z. (t ++ (u ++ (v ++ z))) ++ []) (name_parts k) ∙ simp (append_assoc, append-nil))) w o
-  due_done (Due.value {k = k} q (named m d x f) e) w o = move (After.told m (part k q d x f e o)) (simp append_assoc)
+  due_done (Due.value q i e) w o = valued q i e o
 
   pub begun_done :
       {t w : List ℕ} {es fs : List Ev} {rs : Rows} {r : ℕ} {k : State} → Begun L t es w rs r fs k → (v : List ℕ) → OneOf rs v → After L (t ++ v) (plus es fs) k

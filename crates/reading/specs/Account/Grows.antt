@@ -44,6 +44,7 @@ module _ (L : Limits) where
   stag_open (before p) (Fits.before f) g = move_at (inside (first f p g) (data' Run.none)) (simp append-nil) refl
   stag_open (inside o c) (Fits.inside f) g =
       move_at (inside (deeper f o c g) (data' Run.none)) (simp (append_assoc, append-nil)) (simp (append_assoc, append-nil))
+  stag_open {t = t} {n = n} {u = u} {es = es} (At.after _) x12 g = elim x12 [ ]
 
   pub at_open :
       {p : Place} {n t u : List ℕ} {ms : List (List ℕ)} {es : List Ev}
@@ -60,6 +61,7 @@ module _ (L : Limits) where
       → At L (emptied p) b0 (t ++ u) (es ++ (opens n ∷ closes n ∷ []))
   etag_empty (before p) (Fits.before f) g = move_at (after (document p (empty f g) Misc.none)) (simp append-nil) refl
   etag_empty (inside o c) (Fits.inside f) g = move_at (inside o (child c (empty f g) Run.none)) (simp (append_assoc, append-nil)) (simp append_assoc)
+  etag_empty {t = t} {n = n} {u = u} {es = es} (At.after _) x12 g = elim x12 [ ]
 
   pub at_empty :
       {p : Place} {n t u : List ℕ} {ms : List (List ℕ)} {es : List Ev}

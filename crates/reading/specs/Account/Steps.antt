@@ -16,7 +16,6 @@ use Rattle.xml.specs.Class.{Rows, in_class, In, OneOf, this, Spells, derive, sou
 use Rattle.xml.proofs.Class.Laws.{sound_waiting, waiting_sound}
 use Rattle.xml.specs.Chars.{blank, name_start, quote}
 use Rattle.xml.specs.Refused
-use Rattle.xml.specs.Grammar
 use Rattle.xml.specs.Grammar.{Limits, Ev, Br, b0, b1, b2, Part, version, encoding, standalone, Each, narrow, S, s, Eq, eq, Remarked, Run, Value, name}
 use Rattle.xml.specs.Grammar.{ctag, Mark, Told, begun}
 use Rattle.xml.specs.Machine

@@ -15,10 +15,11 @@ use mathlib.Core.List.{List, [], ◌∷◌, ◌++◌, append_assoc}
 use Rattle.choice.specs.When.{when}
 use Rattle.xml.specs.Class.{Rows, in_class, word, words, disjoint, disjoint_ranges, out_of, waiting}
 use Rattle.xml.proofs.Class.Laws.{some_spelling, waiting_sound}
+use Rattle.xml.specs.Chars.{quote}
 use Rattle.xml.specs.Refused.{misplaced}
-use Rattle.xml.specs.Grammar.{Limits, Ev, Br, b0, Part, Mark}
+use Rattle.xml.specs.Grammar.{Limits, Ev, Br, b0, Part, part_values, Eq, Mark}
 use Rattle.xml.specs.Grammar
-use Rattle.xml.specs.Machine.{Place, State, goes, one_of, arms, pick, step, stands, run}
+use Rattle.xml.specs.Machine.{Place, State, part_refusal, goes, one_of, arms, pick, step, stands, run}
 use Rattle.xml.specs.Unfinished.{Late, Open, first, deeper, At, before, inside, after, Fits, InName, tag, InTag, attributed, InAtt, attribute}
 use Rattle.xml.specs.Unfinished.{InValue, quoting, InDecl, named}
 use Rattle.reading.specs.Left.{left, left_back}
@@ -98,6 +99,7 @@ module _ (L : Limits) where
   name_reached (tag (before p) (Fits.before x) i) = let r = prolog_leads L p in leads_quiet L r.leads (name_leads L r.prior.gate x i)
   name_reached (tag {p = Place.inside n ns} {k = k} (inside o c) (Fits.inside x) i) =
       leads_quiet L (inside_leads (inside o c)) (name_leads L (gate_inside L n ns k) x i)
+  name_reached {n = n} {es = es} (tag {t = t} (At.after _) x20 i) = elim x20 [ ]
 
   pub tag_reached : {p : Place} {n t : List ℕ} {ms : List (List ℕ)} {es : List Ev} → InTag L p n ms t es → Leads L State.start t es (atts_as L p n ms)
   tag_reached {p} {n} (attributed i g) = leads_quiet L (name_reached i) (atts_lead L p n g)
@@ -134,6 +136,15 @@ module _ (L : Limits) where
   reads_own (Reads.amper h) = refl
   reads_own (Reads.bang a) = refl
 
+  value_due :
+      {o : Option Part} {k : Part} {t u : List ℕ} (q : Bool)
+      → InDecl o k t
+      → Eq u
+      → Leads L State.start (t ++ (u ++ (quote q ∷ []))) [] (State.rows (part_values k (quote q)) (part_refusal k) [] (State.told k))
+  value_due {o = o} {k = k} q (named m d x f) g =
+      let (j, l, e, r) = mark_leads L m in
+      leads_append L (leads_append L l (part_leads L j e k d x f)) (leads_append L (equals_leads L o k g) (one L (quote_leads L o k q)))
+
   pub due_leads : {t : List ℕ} {es fs : List Ev} {rs : Rows} {r : ℕ} {k : State} → Due L t es rs r fs k → Leads L State.start t es (State.rows rs r fs k)
   unfolding step pick when
   due_leads Due.mark = one L refl
@@ -146,9 +157,7 @@ module _ (L : Limits) where
   due_leads (Due.name {o = o} {k = k} m d x f) =
       let (j, l, e, r) = mark_leads L m in
       leads_same L (leads_append L (leads_append L l (piece_leads L j e d f)) (one L (name_byte_lem L o k x))) (simp append_assoc)
-  due_leads (Due.value {o = o} {k = k} q (named m d x f) g) =
-      let (j, l, e, r) = mark_leads L m in
-      leads_append L (leads_append L l (part_leads L j e k d x f)) (leads_append L (equals_leads L o k g) (one L (quote_leads L o k q)))
+  due_leads (Due.value q i g) = value_due q i g
 
   rows_leads :
       {t w : List ℕ} {es fs : List Ev} {rs : Rows} {r : ℕ} {k : State}

@@ -121,7 +121,7 @@ module _ (L : Limits) where
     value_open true = refl
     value_open false = refl
 
-    pub value_leads : {u : List ℕ} (q : Bool) → Value q u → Leads L (State.value p n ms m q) u [] (State.value p n ms m q)
+    pub value_leads : (q : Bool) {u : List ℕ} → Value q u → Leads L (State.value p n ms m q) u [] (State.value p n ms m q)
     value_leads q Value.none = stay
     value_leads q (Value.char v c) =
         leads_append L (value_leads q v) (char_leads L (State.value p n ms m q) (State.value p n ms m q) (unquoted q) (valued q) (value_wide q) c)

@@ -16,9 +16,9 @@ use mathlib.Core.List.{List, [], ◌∷◌, ◌++◌, append_assoc, append-nil, 
 use Rattle.std.proofs.Math.Dec.{T, eqb→eq}
 use Rattle.choice.specs.When.{when_known, never}
 use Rattle.xml.specs.Class.{Rows, in_class, In, derive}
-use Rattle.xml.specs.Chars.{name_start, beyond, plain}
+use Rattle.xml.specs.Chars.{name_start, beyond}
 use Rattle.xml.specs.Refused
-use Rattle.xml.specs.Grammar.{Limits, Ev, entities, Br, b0, b1, b2, among, Part, version, encoding, standalone, name}
+use Rattle.xml.specs.Grammar.{Limits, Ev, entities, Br, b0, b1, b2, among, Part, version, encoding, standalone}
 use Rattle.xml.specs.Machine
 use Rattle.xml.specs.Machine.{Place, State, Outcome, refused, goes, Arms, stop, one_of, lit, on, check, greater, part_arm, arms, settle, pick, step}
 use Rattle.xml.specs.Unfinished.{Late, At, before, inside, after, InValue}
@@ -63,10 +63,10 @@ module _ (L : Limits) where
   pick_said K t (lit n o a) b h x =
       when_known (Spoken t b) (eqb b n) o (pick a b)
       (λ e. let z : b ≡ n = eqb→eq b n (subst T (sym e) tt) in subst (λ y. Spoken t y o) (sym z) (h.0 (subst K z x)))
-      (λ e. pick_said _ t a b h.1 (x, e))
+      (λ e. pick_said (λ y. K y × (eqb y n ≡ false)) t a b h.1 (x, e))
   pick_said K t (on c f a) b h x =
       when_known (Spoken t b) (in_class c b) (f b) (pick a b)
-      (λ e. h.0 b x (record { holds = subst T (sym e) tt })) (λ e. pick_said _ t a b h.1 (x, e))
+      (λ e. h.0 b x (record { holds = subst T (sym e) tt })) (λ e. pick_said (λ y. K y × (in_class c y ≡ false)) t a b h.1 (x, e))
 
   moved : {r : ℕ} {t u : List ℕ} {b : ℕ} → Refusal L r t b → t ≡ u → Said r u b
   moved {r} {b = b} h e = said (subst (λ z. Refusal L r z b) e h)

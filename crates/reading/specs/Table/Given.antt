@@ -148,7 +148,7 @@ module _ (L : Limits) where
       let r = prolog_leads L p in
       ⊎_elim (λ e. inl (reached (run_account L t [] r.state (leads_run L r.leads)) e)) (λ m. inr m) r.where'
     where
-      late : {es : List Ev} {p : Place} {k : Br} → After L t es (State.at p k) → Late p t
+      late : {u : List ℕ} {es : List Ev} {p : Place} {k : Br} → After L u es (State.at p k) → Late p u
       late (After.at a l) = l
 
       reached : {es : List Ev} {k : State} → After L t es k → k ≡ State.at Place.before b0 → Late Place.before t
@@ -160,6 +160,7 @@ module _ (L : Limits) where
   unfolding past pick_arms disjoint out_of disjoint_ranges in_class
   foreign_markup Place.before b x h = by_class L (State.markup Place.before) beyond _ _ refl h
   foreign_markup (Place.inside n ns) b x h = by_class L (State.markup (Place.inside n ns)) beyond _ _ refl h
+  foreign_markup Place.after b x h = elim x [ ]
 
   foreign_opening : (b : ℕ) → In beyond b → step L State.opening b ≡ refused Refused.foreign_name
   unfolding past pick_arms disjoint out_of disjoint_ranges in_class

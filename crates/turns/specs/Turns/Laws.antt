@@ -35,7 +35,7 @@ use Rattle.session.specs.declared.Session.{Session}
 use Rattle.session.specs.Run.{Housed, housed}
 use Rattle.promise.specs.Promise.{Of}
 use Rattle.lines.specs.Text.{lines_of, nodes_in}
-use Rattle.lines.specs.Text.Laws.{lines_of_append}
+use Rattle.lines.proofs.Text.Laws.{lines_of_append}
 use Rattle.system.specs.declared.File.{File}
 use Rattle.system.specs.Marks.{ReadOver, WriteTold, received, nothing_yet, Delivered, delivered, none_yet}
 use Rattle.reads.specs.declared.State.{State}

@@ -1,5 +1,5 @@
 -- `xml_events::answer_files` meets its contract: the whole program. Assumes nothing.
-use Rattle.lines.specs.Put.Laws.{put_taken}
+use Rattle.lines.proofs.Put.Laws.{put_taken}
 use Rattle.xml_events.specs.Program.Laws.{outcome_silent, outcome_said}
 use borrow.Author.Rules.{rules}
 use Rattle.xml_events.proofs.answer_files.Statement.{statement}

@@ -1,0 +1,4 @@
+-- The proofs of crate lines.
+pub mod Decimal
+pub mod Put
+pub mod Text

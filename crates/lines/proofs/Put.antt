@@ -1,0 +1,2 @@
+-- What is shown of specs/Put.
+pub mod Laws

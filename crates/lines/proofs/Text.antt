@@ -1,0 +1,2 @@
+-- What is shown of specs/Text.
+pub mod Laws

@@ -1,0 +1,21 @@
+-- `get` reads the number of its field. Assumes nothing.
+use native.Mathlib.Omega.{arith}
+use Rattle.meaning.specs.Limits.{held_limit}
+use Rattle.meaning.proofs.Limits.Laws.{nodes_is}
+use Rattle.node.specs.Node.Laws.{get_is}
+use Rattle.node.proofs.get.Goals as goal
+
+pub overflow_mul-i : goal.overflow_mul-i
+unfolding held_limit
+overflow_mul-i c = omega arith
+
+pub overflow_add-i : goal.overflow_add-i
+unfolding held_limit
+overflow_add-i c = omega arith
+
+pub get-requires : goal.get-requires
+unfolding held_limit
+get-requires c = omega (arith, nodes_is)
+
+pub returns : goal.returns
+returns c = get_is _ _ _ _ c.requires.1.0 c.requires.1.1 c.get.ensures

@@ -1,0 +1,34 @@
+-- `pick::answer_events` meets its contract. Assumes nothing.
+use Rattle.std.proofs.Common.{refl, inl, inr, arith}
+use borrow.Author.Rules.{rules}
+use Rattle.meaning.proofs.Limits.Laws.{node_limit_is, output_is}
+use Rattle.session.specs.Event.Laws.{finish_is}
+use Rattle.lines.proofs.Put.Laws.{put_taken}
+use Rattle.pick.specs.Program.Laws.{streamed_lined}
+use Rattle.pick.proofs.answer_events.Goals as goal
+
+pub work_all-state-requires : goal.work_all-state-requires
+work_all-state-requires c =
+    record {
+      in_bounds = ((search rules, search rules), search rules);
+      elements_needed_in_bounds = c.requires.elements_needed_in_bounds;
+      output_needed_in_bounds = (omega (arith, output_is), c.requires.in_bounds.1);
+    }
+
+pub last_line-requires : goal.last_line-requires
+last_line-requires c = (omega (arith, c.requires.in_bounds.0), omega (arith, c.work_all-state.ensures.few, node_limit_is))
+
+pub returns-then-state : goal.returns-then-state
+returns-then-state c =
+    let work = c.work_all-state.ensures in
+    let line = c.last_line.ensures in
+    let ended = finish_is _ c.finish-finish.result c.finish-finish.ensures in
+    let written = c.if-state.true in
+    record {
+      events_answered =
+          inl (λ b o. streamed_lined c.open-file.ensures c.close.ensures (work.streamed written b o) _ ended _ _ (put_taken line.put (search rules)));
+      prefix_len = line.prefix_len;
+    }
+
+pub returns : goal.returns
+returns c = record { events_answered = inr (c.work_all-state.ensures.failed c.if-state.false, refl); prefix_len = (omega arith, refl) }

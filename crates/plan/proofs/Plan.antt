@@ -1,2 +1,0 @@
--- What is shown of specs/Plan.
-pub mod Laws

@@ -1,0 +1,21 @@
+-- One row after the other: the invariant says which stand already. Assumes nothing.
+use Rattle.std.proofs.Common.{rules}
+use native.Mathlib.Omega.{arith}
+use mathlib.Core.Path.{refl}
+use Rattle.plan_bytes.specs.Kept.{slots}
+use Rattle.plan_bytes.specs.Kept.Laws.{room_is, written_none, written_as, written_all}
+use Rattle.plan_bytes.proofs.put_hung.Goals as goal
+
+pub loop-i-init : goal.loop-i-init
+loop-i-init c = (omega arith, (refl, written_none _ _ _))
+
+pub put-requires : goal.put-requires
+put-requires c = omega (arith, room_is)
+
+pub loop-i-preserved : goal.loop-i-preserved
+loop-i-preserved c = let at-loop = c.loop-i in
+    (omega arith, (search rules, written_as 40 _ _ _ _ _ _ at-loop.invariant.1.1 refl c.put.ensures))
+
+pub returns : goal.returns
+unfolding slots
+returns c = written_all 40 _ 32 _ _ _ c.loop-i.invariant.0 (omega arith) c.loop-i.invariant.1.1

@@ -1,0 +1,2 @@
+-- The proofs of crate query_c.
+pub mod Packed
