@@ -14,11 +14,10 @@ use Rattle.std.proofs.Math.ListN.{length, take, drop}
 use Rattle.std.proofs.Math.Seq.{take-append_seam, take-append-add, drop-append_seam}
 use Rattle.choice.specs.When.{never}
 use Rattle.meaning.specs.Stream.{Stream}
-use Rattle.meaning.specs.Answer as meaning
 use Rattle.xml.specs.Refused.{scant}
 use Rattle.xml.specs.Grammar.{Ev, Document}
 use Rattle.xml.specs.Limited.{bounds}
-use Rattle.xml.specs.Machine.{State, stopped, stands, run}
+use Rattle.xml.specs.Machine.{State, stands, run}
 use Rattle.xml.specs.Sentences.{Begins, Spent, RefusedAt}
 use Rattle.xml.specs.Table.{Refusal}
 use Rattle.xml.specs.Numbered.{Numbering, numbered, events}
@@ -44,9 +43,9 @@ use Rattle.text_right.proofs.Quiet.{Bytes}
 use Rattle.reader_right.specs.Records.{records_of, records_in, records_more, same_records}
 use Rattle.reader_right.specs.Wrote.{wrote_first, wrote_rest}
 use Rattle.reader_right.specs.Counted.{Counted}
-use Rattle.reader_right.specs.TextRead.{TextRead, used, text_begun, FeedCame, feed_came, feed_on}
-use Rattle.reader_right.specs.TextRead as came
-use Rattle.reader_right.specs.Ended.{finish_exactly, finish_stops}
+use Rattle.reader_right.specs.TextRead.{TextRead, used}
+use Rattle.reader_right.proofs.TextRead.{text_begun, FeedCame, feed_came, feed_on}
+use Rattle.reader_right.proofs.Ended.{finish_exactly, finish_stops}
 use Rattle.reader_right.specs.Theorem.{Fed, begun, fed, lent_scant, Events, Feeds, stopped_at, Refuses, Promised}
 
 module _ (N X : List ℕ) where

@@ -37,7 +37,8 @@ use Rattle.text_right.proofs.Placed.{Placed}
 use Rattle.text_right.proofs.Led.{sound_deep}
 use Rattle.reader_right.specs.Records.{records_of, records_in}
 use Rattle.reader_right.specs.Wrote.{Wrote, wrote_more}
-use Rattle.reader_right.specs.Counted.{Counted, counted_fewer, counted_same, counted_more}
+use Rattle.reader_right.specs.Counted.{Counted}
+use Rattle.reader_right.proofs.Counted.{counted_fewer, counted_same, counted_more}
 
 open_most : (p : ℕ) → open_at p ≤ p
 unfolding open_at

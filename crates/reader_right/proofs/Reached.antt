@@ -7,7 +7,7 @@
 --   read_ended            no turn is left: the text ends, the byte here is refused, or the output has no room for what another byte can give
 --
 -- N and X are the list of names and its index, t is the text. Assumes nothing.
-use Prim.Native.Nat.{ℕ, zero, suc, ◌+◌, ◌-◌, ◌≤◌, ◌<◌}
+use Prim.Native.Nat.{ℕ, zero, suc, ◌+◌, ◌≤◌, ◌<◌}
 use Rattle.std.proofs.Common.{arith, sym, ◌∙◌, append_assoc, append-nil, length-append, length-drop, take-add}
 use Rattle.std.specs.Prelude.{◌≡◌, refl, Bool, true, false, List, [], ◌∷◌, ◌++◌, take, drop}
 use Rattle.std.proofs.Math.Path.{ap, subst}
@@ -38,7 +38,7 @@ use Rattle.text_right.proofs.Led.{turn_placed, turn_below, turn_long}
 use Rattle.reader_right.specs.Records.{records_in, records_more}
 use Rattle.reader_right.specs.Wrote.{Wrote, wrote_long}
 use Rattle.reader_right.specs.Counted.{Counted}
-use Rattle.reader_right.specs.Emits.{emits, emits_none}
+use Rattle.reader_right.proofs.Emits.{emits, emits_none}
 
 -- where a byte is refused nothing is given
 refused_none : {r x : Reader} → Placed r x → 0 < x.refusal → x.gives ≡ gives.Nothing
