@@ -41,8 +41,8 @@ fn open(
     written: usize,
 ) -> usize
     requires { (length room.old ≡ room_needed) × (index_words ≤ length index.now) × (written + 16 ≤ length out.old) }
-    ensures { record { room = room.exit.now; out = out.new; written = result }
-        ≡ opened names.now index.now slot room.entry.now out.old written }
+    ensures { record { room = room.new; out = out.new; written = result }
+        ≡ opened names.now index.now slot room.old out.old written }
 {
     let name = look_up(names, index, &*room, slot);
     slots::put_number(room, slot, name);
@@ -53,8 +53,8 @@ fn open(
 // An element was closed.
 fn close(slot: usize, room: &[u8], out: &mut [u8], written: usize) -> usize
     requires { (length room.now ≡ room_needed) × (written + 16 ≤ length out.old) }
-    ensures { record { room = room.entry.now; out = out.new; written = result }
-        ≡ closed slot room.entry.now out.old written }
+    ensures { record { room = room.now; out = out.new; written = result }
+        ≡ closed slot room.now out.old written }
 {
     let name = slots::number(room, slot);
     records::put_event(out, written, 2, name);
@@ -81,8 +81,8 @@ pub fn emit(
     written: usize,
 ) -> usize
     requires { (length room.old ≡ room_needed) × (index_words ≤ length index.now) × (written + 16 ≤ length out.old) }
-    ensures { record { room = room.exit.now; out = out.new; written = result }
-        ≡ emitted names.now index.now r room.entry.now out.old written }
+    ensures { record { room = room.new; out = out.new; written = result }
+        ≡ emitted names.now index.now r room.old out.old written }
 {
     let gives = r.gives;
     match gives {

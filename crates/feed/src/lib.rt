@@ -1,4 +1,6 @@
 // A block of events on lent bytes, one after the other, each with the stop (crate stop).
+#![tactic(auto)]
+
 ghost use Rattle.std.specs.Prelude.{◌≡◌, ◌*◌, ◌/◌, ◌≤◌, length};
 ghost use Rattle.meaning.specs.Limits.{elements_needed, nodes_needed};
 ghost use Rattle.numbers.specs.Numbers.{numbers_room, numbers_in};

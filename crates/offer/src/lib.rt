@@ -1,5 +1,7 @@
 // One event on a session in lent bytes and on room of any length: refusals 1 and 15 by the lengths, then the stop
 // and a step on the bytes of each room that are needed (crate stop).
+#![tactic(auto)]
+
 ghost use Rattle.std.specs.Prelude.{◌≡◌, ◌≤◌, length};
 ghost use Rattle.meaning.specs.Limits.{output_needed, elements_needed, nodes_needed};
 ghost use Rattle.numbers.specs.Numbers.{numbers_room, numbers_in};

@@ -1,5 +1,7 @@
 // A session: one event at a time in, the selected nodes out as soon as they are certain. The room for the open elements and the waiting nodes is lent with
 // each event; the session, by value, keeps only its numbers and what it keeps of its query.
+#![tactic(auto)]
+
 ghost use Rattle.std.specs.Prelude.{◌≡◌, ◌*◌, ◌≤◌, length};
 ghost use Rattle.meaning.specs.Limits.{elements_needed, nodes_needed};
 ghost use Rattle.numbers.specs.Numbers.{numbers_room, numbers_in};
@@ -10,7 +12,7 @@ ghost use Rattle.session.specs.Run.{ran, run_within, RunGives};
 use plan::Plan;
 use query::QueryAnswer;
 
-#[derive(Drop)]
+#[derive(Clone, Copy)]
 pub struct Session {
     // What is kept of the query (crate plan_bytes).
     pub kept: [u8; 288],

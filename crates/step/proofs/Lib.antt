@@ -1,2 +1,2 @@
 -- The proofs of crate step.
-pub mod Step
+pub mod Steps

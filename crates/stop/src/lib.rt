@@ -1,4 +1,6 @@
 // The stop: which refusals stop a session, and one event on lent bytes with it. "Once a session has given one of the refusals 2 to 7 it is stopped".
+#![tactic(auto)]
+
 ghost use Rattle.std.specs.Prelude.{◌≡◌, ◌*◌, ◌≤◌, length};
 ghost use Rattle.meaning.specs.Record.{event_of};
 ghost use Rattle.meaning.specs.Limits.{output_needed, elements_needed, nodes_needed};

@@ -11,18 +11,17 @@ pub returns-then-index-lt-INDEX : goal.returns-then-index-lt-INDEX
 returns-then-index-lt-INDEX c = answer_scant _ _ (omega arith)
 
 pub returns-then-answer-ne0 : goal.returns-then-answer-ne0
-returns-then-answer-ne0 c = answer_refused _ _ _ _ (omega arith) c.check-answer.ensures (λ none. omega (arith, c.if-answer-ne0.true)) refl
+returns-then-answer-ne0 c = answer_refused _ _ _ _ (omega arith) c.check-answer.ensures (λ none. omega arith) refl
 
 pub returns : goal.returns
 returns c =
-    answer_built _ _ _ _ (omega arith) c.check-answer.ensures c.if-answer-ne0.false
-    c.fill.ensures
+    answer_built _ _ _ _ (omega arith) c.check-answer.ensures (omega arith) c.fill.ensures
 
 pub fill-requires : goal.fill-requires
 fill-requires c =
     let told = c.check-answer.ensures in
-    let none : c.check-answer.result.refusal ≡ 0 = omega (arith, c.if-answer-ne0.false) in
+    let none : c.check-answer.result.refusal ≡ 0 = omega arith in
     record {
       taken = no_refusal _ (sym (ap (λ (a : Listing). a.refusal) told) ∙ none);
-      room = omega (arith, c.if-index-lt-INDEX.false, index_words_is);
+      room = omega (arith, index_words_is);
     }

@@ -4,7 +4,7 @@ use Rattle.prolog.proofs.in_row.Goals as goal
 
 pub returns-then-b-quote : goal.returns-then-b-quote
 returns-then-b-quote c =
-    row_told _ _ _ _ _ c.value_byte-want.ensures c.if-want-eq0.true c.if2.true c.part_of_lem.ensures
+    row_told _ _ _ _ _ c.value_byte-want.ensures c.if-want-eq0.true c.if-b-quote.true c.part_of-part.ensures
     c.counted.ensures
 
 pub returns-then-want-eq0 : goal.returns-then-want-eq0

@@ -16,4 +16,4 @@ unfolding quoted_tick
 returns c =
     let a = c.args in
     when_no _ _ _ _ (le-ltb 5 a.r.n (omega arith))
-    (c.in_row.ensures ∙ ap (quoted_in a.r a.b a.quote) c.Value-row.ensures)
+    (c.in_row.ensures ∙ ap (quoted_in a.r a.b a.quote) c.value_row-row.ensures)

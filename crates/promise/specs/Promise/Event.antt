@@ -6,7 +6,7 @@
 --   room_long                  room that is not too small is long enough
 --
 -- Assumes nothing of the room but that the records in use are those that the last call left.
-use Prim.Native.Nat.{ℕ, ◌+◌, ◌*◌, ◌≤◌, ◌<◌}
+use Prim.Native.Nat.{ℕ, ◌*◌, ◌≤◌, ◌<◌}
 use Rattle.std.proofs.Common.{arith, ap₂, ◌∙◌, ne_eqb, ltb-false}
 use Rattle.std.specs.Prelude.{◌≡◌, Bool, false, ◌||◌, T, ltb, take}
 use Rattle.std.proofs.Math.Path.{refl, sym, ap, subst}
@@ -44,7 +44,7 @@ use Rattle.node.specs.Node as node
 use Rattle.node.specs.Node.{Queue, queue_in}
 use Rattle.numbers.specs.Numbers.{Numbers}
 use Rattle.step.specs.Step.{After, step}
-use Rattle.step.proofs.Step.Left.{step_still}
+use Rattle.step.proofs.Steps.Left.{step_still}
 use Rattle.stop.specs.Stop.{marked, guarded}
 use Rattle.stop.specs.Stop.Laws.{marked_same, guarded_stopped, guarded_going}
 use Rattle.right.specs.Used.{state_in, same_state}

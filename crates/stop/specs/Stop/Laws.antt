@@ -21,7 +21,7 @@ use Rattle.node.specs.Node.{Queue}
 use Rattle.numbers.specs.Numbers.{Numbers, Said}
 use Rattle.step.specs.declared.Stepped.{Stepped}
 use Rattle.step.specs.Step.{After, after, refused_with, step}
-use Rattle.step.proofs.Step.Left.{refused_same, step_said}
+use Rattle.step.proofs.Steps.Left.{refused_same, step_said}
 use Rattle.stop.specs.Stop.{marked_by, marked, guarded}
 
 pub marked_other : (r : ℕ) (n : Numbers) → stops r ≡ false → marked_by r n ≡ n
