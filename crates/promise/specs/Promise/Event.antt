@@ -6,7 +6,7 @@
 --   room_long                  room that is not too small is long enough
 --
 -- Assumes nothing of the room but that the records in use are those that the last call left.
-use Prim.Native.Nat.{ℕ, ◌+◌, ◌*◌, ◌≤◌, ◌<◌}
+use Prim.Native.Nat.{ℕ, ◌*◌, ◌≤◌, ◌<◌}
 use Rattle.std.proofs.Common.{arith, ap₂, ◌∙◌, ne_eqb, ltb-false}
 use Rattle.std.specs.Prelude.{◌≡◌, Bool, false, ◌||◌, T, ltb, take}
 use Rattle.std.proofs.Math.Path.{refl, sym, ap, subst}
