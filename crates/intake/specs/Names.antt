@@ -8,7 +8,7 @@
 --   NamesGiven l n       the file's bytes are the first n of l;  names_read: and with room for one byte more than a list has, that is enough
 --
 -- Assumes nothing. NOT here: which lists are taken (crate listed).
-use Rattle.std.specs.Prelude.{ℕ, suc, ◌+◌, ◌*◌, ◌≤◌, ◌<◌, ◌⊎◌, ◌≡◌, refl, Bool, true, false, List, [], ◌∷◌, ◌++◌, ltb, length, take}
+use Rattle.std.specs.Prelude.{ℕ, suc, ◌*◌, ◌≤◌, ◌<◌, ◌⊎◌, ◌≡◌, refl, Bool, true, false, List, [], ◌∷◌, ◌++◌, ltb, length, take}
 use Rattle.std.proofs.Common.{arith, inl, inr, ap, length-append, length-take-le, ltb-true, ltb-false}
 use Rattle.xml.proofs.Bounds.Laws.{list_limit_is, name_limit_is}
 use Rattle.listed.specs.Lines.{lines_of, line_at}
