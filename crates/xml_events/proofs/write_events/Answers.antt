@@ -2,19 +2,9 @@
 use Rattle.std.proofs.Common.{rules}
 use native.Mathlib.Omega.{arith}
 use mathlib.Core.Path.{sym, ◌∙◌}
-use lib.ListN.{length}
 use lib.Seq.{length-take-le}
 use Rattle.slots.specs.Slots.Laws.{room_is}
-use Rattle.xml_events.specs.Program.Laws.{
-  SoFar,
-  begun_so_far,
-  turn_less,
-  turn_written,
-  turn_room,
-  turn_so_far,
-  so_far_few,
-  so_far_written,
-}
+use Rattle.xml_events.specs.Program.Laws.{begun_so_far, turn_less, turn_written, turn_room, turn_so_far, so_far_few, so_far_written}
 use Rattle.xml_events.proofs.write_events.Goals as goal
 
 pub turns-init : goal.turns-init
