@@ -16,7 +16,7 @@ use Rattle.session.specs.declared.Session.{Session}
 use Rattle.session.specs.declared.Begun as given
 use Rattle.session.specs.declared.Ran.{Ran}
 use Rattle.session.specs.declared.Finish.{Finish}
-use Rattle.session.specs.Begin.{Begun, said, BeginGives}
+use Rattle.session.specs.Begin.{said, BeginGives}
 use Rattle.session.specs.Event.{FinishGives}
 use Rattle.session.specs.Event as session
 use Rattle.session.specs.Event.Laws.{finish_is}

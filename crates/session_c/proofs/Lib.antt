@@ -1,0 +1,2 @@
+-- The proofs of crate session_c.
+pub mod Copied
