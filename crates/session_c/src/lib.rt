@@ -1,7 +1,9 @@
 // The session's calls as crate session_export hands them to callers in C and Rust. The session stands in 312 bytes that the caller lends with each call: 288
 // that are kept of the query (crate plan_bytes) and 24 of numbers (crate numbers). Answers are numbers: 0, or the refusal's, and 256 times what comes with
 // it; begin's has 65,536 times the reason as well.
-ghost use Rattle.std.specs.Prelude.{◌≡◌, [], ◌∷◌, length};
+#![tactic(auto)]
+
+ghost use Rattle.std.specs.Prelude.{◌≡◌, ◌≤◌, [], ◌∷◌, ◌++◌, drop, length};
 ghost use Rattle.words.specs.Words.{bytes_of};
 ghost use Rattle.numbers.specs.Numbers.{numbers_room, numbers_in};
 ghost use Rattle.query_c.specs.Packed.{packed};
@@ -38,13 +40,21 @@ fn numbered(kept: [u8; 288], numbers: &[u8]) -> Session
     }
 }
 
+// The first bytes of `to` are those of `from` from now on.
+fn copy(from: &[u8], to: &mut [u8])
+    requires { length from.now ≤ length to.old }
+    ensures { to.new ≡ from.now ++ drop (length from.now) to.old }
+{
+    to[..from.len()].copy_from_slice(from);
+}
+
 // The session in bytes: any 312 bytes are one.
 fn session_in(room: &[u8]) -> Session
     requires { length room.now ≡ session_room }
     ensures { result ≡ session_in room.now }
 {
     let mut kept = [0u8; 288];
-    bytes::copy(&room[..plan_bytes::ROOM], &mut kept);
+    copy(&room[..plan_bytes::ROOM], &mut kept);
     numbered(kept, &room[plan_bytes::ROOM..])
 }
 
@@ -71,7 +81,7 @@ fn put_session(session: Session, room: &mut [u8])
     ensures { room.new ≡ session_bytes session }
 {
     let kept = session.kept;
-    bytes::copy(&kept, room);
+    copy(&kept, room);
     put_numbers(
         &mut room[plan_bytes::ROOM..],
         session.depth,
@@ -141,7 +151,7 @@ pub fn compassflare_event(
         return NO_SESSION;
     }
     let mut kept = [0u8; 288];
-    bytes::copy(&session[..plan_bytes::ROOM], &mut kept);
+    copy(&session[..plan_bytes::ROOM], &mut kept);
     let r = offer::offer(
         &kept,
         bytes,

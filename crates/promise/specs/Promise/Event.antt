@@ -2,11 +2,12 @@
 --
 --   Given o bytes .. x d       d is what is owed where x is the first refusal that applies
 --   event_owed                 an event gives what is owed
---   event_answered, event_of_lem, event_written      so its result has the meaning's answer, leads to a session after the past then, and writes the nodes' records
+--   event_answered, event_of_lem, event_written      so its result has the meaning's answer, leads to a session after the past then, and writes the nodes'
+--                              records
 --   room_long                  room that is not too small is long enough
 --
 -- Assumes nothing of the room but that the records in use are those that the last call left.
-use Prim.Native.Nat.{ℕ, ◌+◌, ◌*◌, ◌≤◌, ◌<◌}
+use Prim.Native.Nat.{ℕ, ◌*◌, ◌≤◌, ◌<◌}
 use Rattle.std.proofs.Common.{arith, ap₂, ◌∙◌, ne_eqb, ltb-false}
 use Rattle.std.specs.Prelude.{◌≡◌, Bool, false, ◌||◌, T, ltb, take}
 use Rattle.std.proofs.Math.Path.{refl, sym, ap, subst}

@@ -11,7 +11,7 @@
 --   begin_some, event_some, finish_some     every call has a result;  uses_one: every sequence of uses has only one list of replies
 --
 -- Assumes nothing.
-use Rattle.std.specs.Prelude.{ℕ, ◌+◌, ◌*◌, ◌≤◌, ◌<◌, ◌↔◌, ◌≡◌, Bool, true, false, T, take, drop}
+use Rattle.std.specs.Prelude.{ℕ, ◌*◌, ◌≤◌, ◌<◌, ◌↔◌, ◌≡◌, Bool, true, false, T, take, drop}
 use Rattle.std.proofs.Common.{arith, sym, ap₂, ◌∙◌, subst₂, length-append, length-drop, drop_at}
 use Rattle.std.proofs.Math.Path.{refl, ap, subst}
 use mathlib.Core.List.{List, [], ◌∷◌, ◌++◌, map, flat_map, Memᴰ}
@@ -28,7 +28,7 @@ use Rattle.meaning.specs.Selection.{sure-reading}
 use Rattle.meaning.specs.Explicit.{Selected}
 use Rattle.meaning.specs.Explicit.Demands.{ListedBy, HeldBy}
 use Rattle.meaning.proofs.Explicit.Demands.{listed_exactly, held_exactly, ruled_out_exactly}
-use Rattle.meaning.specs.Standing.{listed, held, ruled_out_nodes}
+use Rattle.meaning.specs.Standing.{listed, ruled_out_nodes}
 use Rattle.meaning.proofs.Standing.Laws.{Rising}
 use Rattle.meaning.proofs.Demands.{list_order, held_order, ruled_out_order, list_explicit, counts_add_up}
 use Rattle.meaning.specs.Stream.{Event, document}
@@ -109,7 +109,7 @@ play_kept o unused = record { of = o; answered = refl; recorded = unfold records
 play_kept {b} {p = past} o (by_event {bytes} {E} {N} {out} {E'} {N'} {out'} {r} same g p) =
     let c = Call.event bytes (record { out = length out; elements = length E; nodes = length N }) in
     let e : told r.answer out' ≡ answer (decode b) past c = event_answered o bytes E N out same r E' N' out' g in
-    let k = play_kept (event_of_lem o bytes E N out same r E' N' out' g) p in
+    let k = play_kept {p = after (decode b) past c} (event_of_lem o bytes E N out same r E' N' out' g) p in
     record {
       of = k.of;
       answered = ap₂ ◌∷◌ e k.answered;
@@ -120,7 +120,7 @@ play_kept {b} {p = past} o (by_event {bytes} {E} {N} {out} {E'} {N'} {out'} {r} 
 play_kept {b} {p = past} {l} o (by_finish {f} {us} g p) =
     let e = finish_given o f g in
     let rest = handed_out (answers (decode b) (after (decode b) past Call.finish) (map call_of us)) in
-    let k = play_kept (subst (λ x. Of b x l) (sym (finish_same (decode b) past)) o) p in
+    let k = play_kept {p = after (decode b) past Call.finish} (subst (λ x. Of b x l) (sym (finish_same (decode b) past)) o) p in
     record {
       of = k.of;
       answered = ap₂ ◌∷◌ e k.answered;
