@@ -10,12 +10,6 @@ use Rattle.reader.proofs.read_on.Goals as goal
 pub loop-marks-init : goal.loop-marks-init
 loop-marks-init c = (omega arith, omega arith, refl, refl, left_begin _ _ _ _ _ _)
 
-pub more-requires : goal.more-requires
-more-requires c = c.loop-marks.invariant.1
-
-pub turn-gone-requires : goal.turn-gone-requires
-turn-gone-requires c = (c.loop-marks.invariant.0, search rules)
-
 pub emit-written-requires : goal.emit-written-requires
 emit-written-requires c =
     let more = more_is _ _ _ _ _ (sym c.more.ensures ∙ c.loop-marks-test.true) in
