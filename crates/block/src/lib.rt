@@ -16,7 +16,7 @@ use session::{Ran, Session};
 use std::io::Stdout;
 
 // What the events of a block gave, and how many bytes of text.
-#[derive(Clone, Copy)]
+#[derive(Drop)]
 struct BlockText {
     ran: Ran,
     length: usize,

@@ -25,7 +25,8 @@ use Rattle.modes.specs.declared.Reader.{Reader}
 use Rattle.reader.specs.Feed.{finish_answer}
 use Rattle.text_right.specs.Stands.{state_of}
 use Rattle.reader_right.specs.TextRead.{TextRead, used}
-use Rattle.reader_right.specs.Ended.{is_after, after_is, finish_exactly, finish_either}
+use Rattle.reader_right.specs.Ended.{is_after}
+use Rattle.reader_right.proofs.Ended.{after_is, finish_exactly, finish_either}
 use Rattle.system.specs.declared.File.{File}
 use Rattle.system.specs.Marks.{ReadOver, Received}
 use Rattle.intake.specs.declared.Intake.{Intake}

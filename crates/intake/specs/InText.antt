@@ -23,7 +23,8 @@ use Rattle.slots.specs.Slots.{room_needed}
 use Rattle.reader.specs.Feed.{Came, too_scant, feed_answer}
 use Rattle.reader_right.specs.Records.{records_of, records_in}
 use Rattle.reader_right.specs.Wrote.{Wrote, wrote_none}
-use Rattle.reader_right.specs.TextRead.{TextRead, text_begun, Kept, FeedCame, lent_scant, went, refused, feed_came}
+use Rattle.reader_right.specs.TextRead.{TextRead}
+use Rattle.reader_right.proofs.TextRead.{text_begun, Kept, FeedCame, lent_scant, went, refused, feed_came}
 use Rattle.system.specs.declared.File.{File}
 use Rattle.system.specs.Marks.{ReadOver, Received, nothing_yet}
 use Rattle.intake.specs.declared.Intake.{Intake}

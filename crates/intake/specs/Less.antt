@@ -11,7 +11,7 @@ use Rattle.std.proofs.lemmas.Bool.{eqb-false}
 use Rattle.choice.specs.Count.{positive, bool_byte_le}
 use Rattle.xml.specs.Grammar.{Ev}
 use Rattle.reader.specs.Feed.{too_scant, feed_answer}
-use Rattle.reader_right.specs.TextRead.{feed_on}
+use Rattle.reader_right.proofs.TextRead.{feed_on}
 use Rattle.system.specs.declared.File.{File}
 use Rattle.intake.specs.declared.Intake.{Intake}
 use Rattle.intake.specs.Intake.{longest, unread_text, FedText, TextCame, Advanced, fed, came}

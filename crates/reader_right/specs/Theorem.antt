@@ -6,12 +6,11 @@
 --   Events N X t bs      bs are the records of the events of t: a stream that a session takes up to its own limits
 --   Feeds .. c out'      one more feed, of the block u, which is lent enough: c is what it answers, and out' the output on return
 --   stopped_at t u c      the text up to the byte that a feed of u stopped before
---   Promised N X         the theorem; it is proved in Theorem.Proof
+--   Promised N X         the theorem; it is proved in proofs/Theorem/Proof
 --
 -- N and X are the list of names and its index: any bytes, and any words. Document, Begins, Spent, RefusedAt and Refusal are docs/XML.md's words (crate xml:
 -- Grammar, Sentences, Table). BeginGives, FeedGives, FinishGives and BuildGives are what `begin`, `feed`, `finish` and `names::build` ensure.
 -- Assumes that a text's bytes are bytes. NOT promised: what a reader does whose room was changed between calls, but that it is one thing (crate reader, Feed).
-pub mod Proof
 use Rattle.std.specs.Prelude.{ℕ, ◌+◌, ◌≤◌, ◌<◌, ◌↔◌, ◌⊎◌, ◌≡◌, true, false, List, [], ◌∷◌, ◌++◌, length, take, drop}
 use Rattle.meaning.specs.Query.{Query}
 use Rattle.meaning.specs.Stream.{Event, Stream}

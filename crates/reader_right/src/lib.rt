@@ -1,2 +1,2 @@
-// What calls of the reader come to is proved here; the code is in crate reader, and everything here is in specs/.
+// What calls of the reader come to is proved here; the code is in crate reader. The definitions are in specs/, and the theorems in proofs/.
 #![tactic(auto)]

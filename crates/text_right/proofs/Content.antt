@@ -18,7 +18,7 @@ use Rattle.xml.specs.Class.{in_class, keep, derive, word}
 use Rattle.xml.specs.Chars.{utf8, plain, blank}
 use Rattle.xml.specs.Refused.{misplaced, not_char, cdata, doctype}
 use Rattle.xml.specs.Grammar.{Br, b0, b1, b2, bracket}
-use Rattle.xml.specs.Machine.{Place, State, refused, goes, Arms, one_of, lit, moves, greater, settle, pick, step, then_byte, remarks}
+use Rattle.xml.specs.Machine.{Place, State, refused, goes, Arms, one_of, lit, greater, settle, pick, step, then_byte, remarks}
 use Rattle.xml.specs.Limited.{bounds}
 use Rattle.chars.specs.Forms.{lead_form, follows, whole}
 use Rattle.modes.specs.declared.Mode.{Mode}

@@ -101,7 +101,9 @@ module _ (R : List ℕ) (s t n : ℕ) (long : length R ≡ 18_496) (ls : s < 272
   unfolding is_name same_bytes begun_in name_in when
   named_is = go (eqb (get_or R (base_of s + 64) 0) n) refl
     where
-      go : (x : Bool) → eqb (get_or R (base_of s + 64) 0) n ≡ x → when x (same_bytes R (base_of s) R (base_of t) n) false ≡ same_name (begun_in R t n) (name_in R s)
+      go :
+          (x : Bool) → eqb (get_or R (base_of s + 64) 0) n ≡ x
+          → when x (same_bytes R (base_of s) R (base_of t) n) false ≡ same_name (begun_in R t n) (name_in R s)
       go true e =
           same_turned (take n (drop (base_of s) R)) (take n (drop (base_of t) R))
           ∙ ap (λ z. same_name (take n (drop (base_of t) R)) (take z (drop (base_of s) R))) (sym (plain_length ∙ eqb-true _ n e))

@@ -13,7 +13,8 @@
 -- Assumes nothing.
 use Prim.Native.Nat.{ℕ, zero, suc, ◌+◌, ◌*◌, ◌-◌, ◌≤◌, ◌<◌}
 use native.Mathlib.Omega.{arith}
-use Rattle.std.proofs.Common.{add-one, ◌∙◌, length-take, length-drop, get_or-set_same, get_or-set_other, drop-set-lt, eq-eqb, ne_eqb, eqb-true, ltb-false, le-ltb}
+use Rattle.std.proofs.Common.{add-one, ◌∙◌, length-take, length-drop, get_or-set_same, get_or-set_other, drop-set-lt}
+use Rattle.std.proofs.Common.{eq-eqb, ne_eqb, eqb-true, ltb-false, le-ltb}
 use Rattle.std.specs.Prelude.{◌≡◌, Bool, true, false, List, [], ◌∷◌, ◌++◌, eqb, ltb, length, get_or, set, drop}
 use Rattle.std.proofs.Math.Path.{refl, sym, ap, ap₂, subst}
 use Rattle.std.proofs.Math.ListN.{take, length-set}

@@ -11,7 +11,7 @@ use native.Mathlib.Omega.{arith}
 use Rattle.std.proofs.Common.{add-one, sym, ◌∙◌, subst, le→leb, drop-cons}
 use Rattle.std.proofs.Math.Path.{refl, ap, ap₂}
 use Rattle.std.proofs.Math.Bool.{not}
-use Rattle.std.proofs.Math.Option.{Option, none, some}
+use Rattle.std.proofs.Math.Option.{Option}
 use mathlib.Core.List.{List, [], ◌∷◌}
 use Rattle.std.proofs.Math.Dec.{T, eqb, leb, ltb, leb→le, eqb→eq}
 use borrow.Author.Tests.{eqb-true, eqb-false, lt-leb, le-leb, not-true, not-false}
@@ -104,7 +104,8 @@ name_test row n =
     eqb (get_or (part_name (part_no row)) n 0) (part_byte row n)
     && (not (eqb (part_byte row n) 0)
     && (ltb n (name_length row)
-    && (same (eqb (part_byte row (n + 1)) 0) (not (ltb (n + 1) (name_length row))) && (leb 1 row && (not (ltb (n + 1) (name_length row)) || name_ok row (n + 1))))))
+    && (same (eqb (part_byte row (n + 1)) 0) (not (ltb (n + 1) (name_length row)))
+    && (leb 1 row && (not (ltb (n + 1) (name_length row)) || name_ok row (n + 1))))))
 
 names_pass : T (up_to 4 (λ row. up_to 10 (λ n. not (name_ok row n) || name_test row n)))
 unfolding up_to name_ok name_test name_length same part_name part_no part_byte when

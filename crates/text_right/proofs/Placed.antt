@@ -27,7 +27,8 @@ use Rattle.prolog.specs.Told.{piece_tick, told_tick, part_tick, part_equals_tick
 use Rattle.prolog.specs.Tick.{prolog_tick}
 use Rattle.content.specs.Text.{wide_tick, char_tick, data_tick, bang_tick, note_tick, remarked_tick, entity_tick, amper_tick}
 use Rattle.tags.specs.Markup.{Ticked, begun, slashed_tick, markup_tick, first_tick}
-use Rattle.tags.specs.Tag.{name_byte, tag_end, tag_tick, tagged_tick, att_begun, gap_tick, named_tick, att_tick, equals_tick, value_tick, att_ended, quoted_tick}
+use Rattle.tags.specs.Tag.{name_byte, tag_end, tag_tick, tagged_tick, att_begun, gap_tick}
+use Rattle.tags.specs.Tag.{named_tick, att_tick, equals_tick, value_tick, att_ended, quoted_tick}
 use Rattle.ends.specs.Ends.{emptied_tick, closed, ended_tick, whole_tick, end_tick}
 use Rattle.tick.specs.Tick.{tick_in, tick}
 use Rattle.text_right.specs.Sound.{Inner, Back, Fits, Sound}
@@ -141,8 +142,8 @@ module _ (M : List ℕ) (r : Reader) (b : ℕ) (R : List ℕ) where
 
   in_placed : {m : Mode} → Fits R r m → In m
   unfolding
-      In tick_in around data_tick wide_tick bang_tick note_tick entity_tick amper_tick char_tick begun slashed_tick markup_tick first_tick name_byte tag_tick tagged_tick
-      att_begun
+      In tick_in around data_tick wide_tick bang_tick note_tick entity_tick amper_tick char_tick begun slashed_tick markup_tick first_tick name_byte
+      tag_tick tagged_tick att_begun
       gap_tick named_tick att_tick equals_tick value_tick
   in_placed (Fits.prolog' {p = p} h k) = prolog_placed p
   in_placed (Fits.first h) = search placing depth 20

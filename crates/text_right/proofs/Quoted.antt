@@ -158,7 +158,8 @@ module _ (r : Reader) (R : List ℕ) (b : ℕ) (kept : Kept R r.place) (at : r.p
       let w = and_r (same_rows d more) (waits d && value_ok y (n + 1)) v in
       Matches.moves refl
       (settle_waits d x [] k (and_l (waits d) (value_ok y (n + 1)) w)
-      ∙ ap₂ (λ z p. goes [] (State.rows z (part_refusal p) [] (State.told p))) (same_rows_lem d more (and_l (same_rows d more) (waits d && value_ok y (n + 1)) v)) same
+      ∙ ap₂ (λ z p. goes [] (State.rows z (part_refusal p) [] (State.told p)))
+      (same_rows_lem d more (and_l (same_rows d more) (waits d && value_ok y (n + 1)) v)) same
       ∙ ap (goes []) (is y (n + 1)))
       (record { kept = kept; fits = Fits.prolog' at (fit y (n + 1) (record { holds = and_r (waits d) (value_ok y (n + 1)) w })) }))
       (λ f. Matches.stops (refusal_some y) (none_left r.row r.n q y refusal (chosen_false (eqb (small y b) (value_byte y n)) on (same_rows d []) f u)))))

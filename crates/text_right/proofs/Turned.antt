@@ -6,7 +6,7 @@
 --   turn_right           a turn of the code is so for the machine
 --
 -- Assumes nothing.
-use Rattle.std.specs.Prelude.{ℕ, suc, ◌+◌, ◌-◌, ◌<◌, ◌≡◌, List, [], ◌∷◌, ◌++◌, eqb, leb}
+use Rattle.std.specs.Prelude.{ℕ, suc, ◌+◌, ◌<◌, ◌≡◌, List, [], ◌∷◌, ◌++◌, eqb, leb}
 use Rattle.std.proofs.Common.{arith, ◌∙◌, subst, append_assoc, append-nil, length-drop, drop-drop, get_or-drop}
 use Rattle.std.proofs.Math.Numerals.{add-one}
 use Rattle.std.proofs.Math.Path.{refl, sym, ap}

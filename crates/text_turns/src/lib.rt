@@ -120,7 +120,7 @@ pub fn work_text(
     let mut events = [0u8; 32768];
     let mut out = [0u8; 32768];
     let mut stand = begin(session);
-    while more_to_do(
+    'turns: while more_to_do(
         stand.state.refusal,
         stand.state.written,
         stand.state.from,

@@ -41,7 +41,7 @@ fn write_events(file: &File, to: Stdout, names: &[u8], index: &[u32]) -> Stand
     let mut events = [0u8; 32768];
     let mut intake = intake::begin();
     let mut written = true;
-    while more_to_do(intake.refusal, intake.ended, written) {
+    'turns: while more_to_do(intake.refusal, intake.ended, written) {
         intake = intake::advance(
             file,
             intake,

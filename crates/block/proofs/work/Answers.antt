@@ -1,5 +1,4 @@
 -- `block::work` meets its contract. Assumes nothing.
-use Rattle.std.proofs.Common.{rules}
 use Rattle.block.proofs.work.Goals as goal
 
 pub returns : goal.returns

@@ -19,7 +19,7 @@ use Rattle.chains.specs.Index.{index_words}
 use Rattle.reader.specs.Fed.{read_for, begun_with, read_on}
 use Rattle.reader.specs.Feed.{Came, too_scant, feed_answer}
 use Rattle.text_right.specs.Marked.{table_is}
-use Rattle.reader_right.specs.Reached.{read_within}
+use Rattle.reader_right.proofs.Reached.{read_within}
 use Rattle.intake.specs.declared.Intake.{Intake}
 use Rattle.intake.specs.Intake.{unread_text, WithinText}
 

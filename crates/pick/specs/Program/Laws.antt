@@ -7,7 +7,7 @@
 --   outcome_written       the rest is written
 --
 -- Assumes nothing.
-use Rattle.std.specs.Prelude.{ℕ, ◌+◌, ◌≤◌, ◌<◌, ◌⊎◌, ◌≡◌, refl, Bool, true, false, ltb, length, take}
+use Rattle.std.specs.Prelude.{ℕ, ◌≤◌, ◌<◌, ◌⊎◌, ◌≡◌, refl, Bool, true, false, ltb, length, take}
 use Rattle.std.proofs.Common.{arith, inl, inr, sym, ◌∙◌, subst, length-append, ltb-true, ltb-false}
 use Rattle.std.proofs.Math.Path.{ap}
 use mathlib.Core.List.{List, [], ◌++◌}
@@ -20,7 +20,6 @@ use Rattle.query.specs.Decode.{decode}
 use Rattle.session.specs.declared.Finish.{Finish}
 use Rattle.session.specs.declared.Start.{Start}
 use Rattle.session.specs.declared.Start.TheVariants as started
-use Rattle.session.specs.declared.Begun.{Begun}
 use Rattle.session.specs.Begin.{said}
 use Rattle.session.specs.Event.{finish}
 use Rattle.lines.specs.Put.{Put}

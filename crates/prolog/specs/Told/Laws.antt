@@ -16,7 +16,9 @@ use Rattle.chars.specs.Said.{left_is, left_other}
 use Rattle.prolog.specs.Told.{value_byte, part_of, small, value_refusal, quoted_in}
 
 module _ (r : Reader) (b quote row want : ℕ) (e : want ≡ value_byte row r.n) where
-  pub row_told : {x : Reader} {part : ℕ} → want ≡ 0 → b ≡ quote → part ≡ part_of row → x ≡ count_to r (mode.Prolog prolog.Told) part → x ≡ quoted_in r b quote row
+  pub row_told :
+      {x : Reader} {part : ℕ} → want ≡ 0 → b ≡ quote → part ≡ part_of row → x ≡ count_to r (mode.Prolog prolog.Told) part
+      → x ≡ quoted_in r b quote row
   unfolding quoted_in
   row_told z q p h =
       when_yes _ _ _ _ (left_is want _ 0 e z) (when_yes _ _ _ _ (eq-eqb b quote q) (h ∙ ap (count_to r (mode.Prolog prolog.Told)) p))

@@ -1,6 +1,5 @@
 -- What is left to read is the whole of it. Assumes nothing.
 use Rattle.std.proofs.Common.{rules}
-use Prim.Native.Nat.{◌-◌}
 use native.Mathlib.Omega.{arith}
 use mathlib.Core.Path.{refl, sym, ◌∙◌}
 use Rattle.emit.specs.Emit.{written_within}

@@ -14,7 +14,8 @@ invariant-loop-marks l =
     × (l.written ≤ length l.out)
     × (length l.room ≡ length l.initial.room)
     × (length l.out ≡ length l.initial.out)
-    × Left l.names l.index l.text (begun_with l.initial.r l.initial.room l.initial.out) (record { reader = l.r; at = l.at; room = l.room; out = l.out; written = l.written })
+    × Left l.names l.index l.text (begun_with l.initial.r l.initial.room l.initial.out)
+    (record { reader = l.r; at = l.at; room = l.room; out = l.out; written = l.written })
 
 abbrev pub decreases-loop-marks : goal.decreases-loop-marks
 decreases-loop-marks l = 2 * (length l.text - l.at) + bool_byte (eqb l.r.refusal 0)

@@ -1,9 +1,8 @@
 -- `reads::move_down` meets its contract. The invariant: so many bytes are moved.
 -- Assumes nothing.
-use Prim.Native.Nat.{◌-◌}
 use native.Mathlib.Omega.{arith}
 use mathlib.Core.Path.{◌≡◌, refl}
-use lib.ListN.{length, drop, length-set, length-drop}
+use lib.ListN.{length-set, length-drop}
 use Rattle.lines.proofs.Put.Laws.{put_none}
 use Rattle.reads.proofs.Moved.{put_moved}
 use Rattle.reads.proofs.move_down.Goals as goal

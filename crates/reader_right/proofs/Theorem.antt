@@ -1,0 +1,2 @@
+-- What is shown of specs/Theorem.
+pub mod Proof
