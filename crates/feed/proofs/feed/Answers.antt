@@ -17,7 +17,7 @@ pub loop-refusal-init : goal.loop-refusal-init
 loop-refusal-init c = (
   (refl, (refl, refl)),
   (
-    (λ i. (c.slice_known-2-1.given i).fits, λ i. (c.slice_known-3-1.given i).fits),
+    ((λ i. (c.type_inv.elements i).fits), (λ i. (c.type_inv.nodes i).fits)),
     none_underway (step_at (kept_in c.args.kept.now)) _ c.args.events.now c.args.out.now,
   ),
 )
@@ -72,15 +72,15 @@ loop-refusal-preserved c = (
   let l = c.loop-refusal in
       let inv = l.invariant in
       let goes = goes_true _ _ _ _ c.goes_on.ensures c.loop-refusal-test.true in
-      let long-elements = inv.0.1.0 ∙ c.requires.elements_len.0 in
-      let long-nodes = inv.0.1.1 ∙ c.requires.elements_len.1 in
+      let long_elements = inv.0.1.0 ∙ c.requires.elements_len.0 in
+      let long_nodes = inv.0.1.1 ∙ c.requires.elements_len.1 in
       let came =
-      step_came (kept_in c.args.kept.now) (numbers_in l.numbers) l.elements l.nodes _ _ long-elements long-nodes inv.1.0.0 inv.1.0.1
-      _ _ _ _ _ _ (search rules) (search rules) (λ i. (c.slice_known-in-loop-refusal-2-1.given i).fits)
-      (λ i. (c.slice_known-in-loop-refusal-3-1.given i).fits)
+      step_came (kept_in c.args.kept.now) (numbers_in l.numbers) l.elements l.nodes _ _ long_elements long_nodes inv.1.0.0 inv.1.0.1
+      _ _ _ _ _ _ (search rules) (search rules) (λ i. (c.type_inv.elements i).fits)
+      (λ i. (c.type_inv.nodes i).fits)
       c.guard-r.ensures.out_after in (
-        (λ i. (c.slice_known-in-loop-refusal-2-1.given i).fits, λ i. (c.slice_known-in-loop-refusal-3-1.given i).fits),
-        turn_underway _ _ _ _ _ inv.1.1 goes _ _ _ _ came (search (rules, c.out-1.given)) c.guard-r.ensures.listed_bound,
+        ((λ i. (c.type_inv.elements i).fits), (λ i. (c.type_inv.nodes i).fits)),
+        turn_underway _ _ _ _ _ inv.1.1 goes _ _ _ _ came (search rules) c.guard-r.ensures.listed_bound,
       ),
 )
 

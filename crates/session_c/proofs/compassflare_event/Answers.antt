@@ -22,11 +22,11 @@ copy-requires c = let S = c.args.session.now in
 
 pub offer-r-requires : goal.offer-r-requires
 offer-r-requires c = let S = c.args.session.now in
-    (omega (arith, plan_room_lem, c.kept-2-1.given), rest_room S (c.if-session-ne-ROOM.false ∙ sym room_is))
+    (omega (arith, plan_room_lem), rest_room S (c.if-session-ne-ROOM.false ∙ sym room_is))
 
 pub returns : goal.returns
 returns c = let long = c.if-session-ne-ROOM.false ∙ sym room_is in
     takes_parts c.args.session.now c.args.bytes.now c.args.elements.now c.args.nodes.now c.args.out.now long
     (λ i. (c.slice_known-1.given i).fits) _ _ _ _ _ _ _ _ _ _ refl (length-take-le 288 c.args.session.now (omega (arith, c.if-session-ne-ROOM.false)))
-    (copied (take 288 c.args.session.now) _ _ c.copy.ensures) (omega (arith, rest_room c.args.session.now long, c.session-1.given))
-    (λ i. (c.slice_known-5-1.given i).fits) c.offer-r.ensures c.answer_event.ensures
+    (copied (take 288 c.args.session.now) _ _ c.copy.ensures) (omega (arith, rest_room c.args.session.now long))
+    (λ i. (c.type_inv.session i).fits) c.offer-r.ensures c.answer_event.ensures

@@ -19,7 +19,7 @@ mark-requires c = rest_room c.args.room.now c.requires
 pub returns-then-taken-eq0 : goal.returns-then-taken-eq0
 unfolding moved_by
 returns-then-taken-eq0 c = marked_parts c.args.room.now c.requires (λ i. (c.slice_known-1.given i).fits) _ _
-    (omega (arith, rest_room c.args.room.now c.requires, c.room-1.given)) (λ i. (c.slice_known-then-taken-eq0-1.given i).fits) c.mark.ensures
+    (omega (arith, rest_room c.args.room.now c.requires)) (λ i. (c.type_inv.room i).fits) c.mark.ensures
     ∙ sym (when_true _ _ _ (eq-eqb _ _ c.if-taken-eq0.true))
 
 pub returns : goal.returns

@@ -6,5 +6,5 @@ use Rattle.numbers.specs.Numbers.{Numbers, with_stop}
 use Rattle.session_c.proofs.put_numbers.Goals as goal
 
 pub returns : goal.returns
-returns c = numbers_laid c.write_stop.new.numbers _ (search rules) (λ i. (c.slice_known-3-1.given i).fits)
+returns c = numbers_laid c.write_stop.new.numbers _ (search rules) (λ i. (c.type_inv.numbers i).fits)
     (c.write_stop.ensures ∙ ap (λ (n : Numbers). with_stop c.args.stopped n) c.write.ensures)

@@ -12,11 +12,11 @@ pub copy-requires : goal.copy-requires
 copy-requires c = let whole : length c.args.session.kept ≡ 288 = search rules in omega (arith, room_is)
 
 pub slice_bounds-put_numbers-start : goal.slice_bounds-put_numbers-start
-slice_bounds-put_numbers-start c = omega (arith, room_is, c.room-1.given, c.requires)
+slice_bounds-put_numbers-start c = omega (arith, room_is, c.requires)
 
 pub put_numbers-requires : goal.put_numbers-requires
 put_numbers-requires c = let copied = c.copy.new.to in
-    let l : length copied ≡ session_room = omega (arith, c.room-1.given, c.requires) in rest_room copied l
+    let l : length copied ≡ session_room = omega (arith, c.requires) in rest_room copied l
 
 pub returns : goal.returns
 returns c = put_parts c.args.session c.args.room.now _ _ (search rules) (copied c.args.session.kept c.args.room.now _ c.copy.ensures) c.put_numbers.ensures

@@ -12,10 +12,10 @@ lay-requires c = sym numbers.room_is
 
 pub offer-r-requires : goal.offer-r-requires
 unfolding plan_room
-offer-r-requires c = (search rules, omega (arith, numbers.room_is, c.numbers-2-1.given))
+offer-r-requires c = (search rules, omega (arith, numbers.room_is))
 
 pub with-next-requires : goal.with-next-requires
-with-next-requires c = omega (arith, numbers.room_is, c.numbers-4-1.given)
+with-next-requires c = omega (arith, numbers.room_is)
 
 pub returns : goal.returns
 returns c = event_gives c.args.self c.args.bytes.now c.args.elements.now c.args.nodes.now c.args.out.now _ _ _ _ _ _ _ c.lay.ensures

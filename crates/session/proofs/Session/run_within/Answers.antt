@@ -12,10 +12,10 @@ lay-requires c = sym numbers.room_is
 
 pub feed-fed-requires : goal.feed-fed-requires
 unfolding plan_room
-feed-fed-requires c = record { kept_len = (search rules, omega (arith, numbers.room_is, c.numbers-2-1.given)); elements_len = c.requires }
+feed-fed-requires c = record { kept_len = (search rules, omega (arith, numbers.room_is)); elements_len = c.requires }
 
 pub with-last-requires : goal.with-last-requires
-with-last-requires c = omega (arith, numbers.room_is, c.numbers-4-1.given)
+with-last-requires c = omega (arith, numbers.room_is)
 
 pub returns : goal.returns
 returns c = record {
