@@ -19,9 +19,11 @@ module _ {l l' : List ℕ} {n : ℕ} where
   query_line_is e p = rw e p
 
   pub finish_line_is :
-      {f g : Finish} (taken r : ℕ) → f ≡ g → r ≤ 0 → Put l 0 (finish_line g taken) l' n × IsPrefixLen n l' → Put l 0 (last_line f taken r) l' n × IsPrefixLen n l'
+      {f g : Finish} (taken r : ℕ) → f ≡ g → r ≤ 0 → Put l 0 (finish_line g taken) l' n × IsPrefixLen n l' →
+      Put l 0 (last_line f taken r) l' n × IsPrefixLen n l'
   finish_line_is taken r e h p = rw (le-ltb 0 r h, e) p
 
   pub refused_line_is :
-      (f : Finish) (taken r : ℕ) → 0 < r → Put l 0 (refused_at_line r (taken + 1)) l' n × IsPrefixLen n l' → Put l 0 (last_line f taken r) l' n × IsPrefixLen n l'
+      (f : Finish) (taken r : ℕ) → 0 < r → Put l 0 (refused_at_line r (taken + 1)) l' n × IsPrefixLen n l' →
+      Put l 0 (last_line f taken r) l' n × IsPrefixLen n l'
   refused_line_is f taken r h p = rw (lt-ltb 0 r h) p

@@ -18,7 +18,8 @@
 --   keeps q s            the step that has s steps before it keeps every rule
 --
 -- Assumes nothing. NOT here: which reason a step at fault gets (Reasons) and which answer a query (Answer), what it means (Decode), laws (Rules.Laws).
-use Rattle.std.specs.Prelude.{ℕ, zero, suc, ◌+◌, ◌*◌, ◌/◌, ◌%◌, ◌≤◌, ◌<◌, ◌≡◌, Bool, true, false, not, ◌&&◌, ◌||◌, List, eqb, leb, ltb, length, get_or, take, drop}
+use Rattle.std.specs.Prelude.{ℕ, zero, suc, ◌+◌, ◌*◌, ◌/◌, ◌%◌, ◌≤◌, ◌<◌, ◌≡◌, Bool, true, false, not, ◌&&◌, ◌||◌}
+use Rattle.std.specs.Prelude.{List, eqb, leb, ltb, length, get_or, take, drop}
 use Rattle.meaning.specs.Query.{nearer}
 use Rattle.query.specs.declared.AxisByte.{AxisByte}
 use Rattle.query.specs.declared.AxisByte.TheVariants.{Child, Descendant, Unknown}

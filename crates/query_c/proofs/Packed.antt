@@ -4,10 +4,10 @@
 --   export_one        two results that the promise allows are equal
 --
 -- Assumes nothing. NOT here: which answer a query gets (crate query, Answer).
-use Rattle.std.specs.Prelude.{ℕ, ◌+◌, ◌*◌, ◌/◌, ◌%◌, ◌≡◌, List}
+use Rattle.std.specs.Prelude.{ℕ, ◌/◌, ◌%◌, ◌≡◌, List}
 use Rattle.std.proofs.Common.{arith, sym, ap, ◌∙◌}
 use Rattle.meaning.specs.Refusals.{bad_step}
-use Rattle.query.specs.Answer.{Answer, admitted, refused, refused_at, answer_to}
+use Rattle.query.specs.Answer.{refused_at, answer_to}
 use Rattle.query.proofs.Answer.Laws.{step_within}
 use Rattle.query_c.specs.Packed.{packed, ExportGives}
 

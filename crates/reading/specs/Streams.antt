@@ -102,7 +102,8 @@ fits_taken q fs e bs lent t h (Due.already_stopped_lem x) = omega arith
 fits_taken q fs e bs lent t h (Due.bad_record_lem x) = absurd (x e h)
 fits_taken q fs e bs lent t h (Due.document_closed x y) = absurd (fits_unfinished e (document fs) t ((finished_exactly (document fs)).1 (x, y)))
 fits_taken q fs e bs lent t h (Due.wrong_close_lem {n = n} x y) =
-    absurd (y ((ends_exactly n (document fs)).0 (fits_closes n (document fs) (subst (λ z. T (fits z (document fs))) (same_event bs e (stream.closes n) h x) t))))
+    absurd
+    (y ((ends_exactly n (document fs)).0 (fits_closes n (document fs) (subst (λ z. T (fits z (document fs))) (same_event bs e (stream.closes n) h x) t))))
 fits_taken q fs e bs lent t h (Due.too_deep_lem x y) = omega arith
 fits_taken q fs e bs lent t h (Due.too_many x y) = omega arith
 fits_taken q fs e bs lent t h (Due.too_many_held_lem x y) = omega arith

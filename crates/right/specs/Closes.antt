@@ -9,7 +9,8 @@
 -- Assumes nothing, not of the buffer's length either.
 use Prim.Native.Nat.{ℕ, pred, ◌+◌, ◌-◌, ◌%◌, ◌^◌, ◌≤◌, ◌<◌}
 use Rattle.std.proofs.Math.Decide.{dec_lt}
-use Rattle.std.proofs.Common.{mod-eq_of_lt, sub-one, arith, ◌∙◌, length-append, length-drop, take-append-drop, take-suc, take-take, get_or-take, length-take-le, lt-ltb, le-ltb}
+use Rattle.std.proofs.Common.{mod-eq_of_lt, sub-one, arith, ◌∙◌, length-append, length-drop, take-append-drop}
+use Rattle.std.proofs.Common.{take-suc, take-take, get_or-take, length-take-le, lt-ltb, le-ltb}
 use Rattle.std.specs.Prelude.{◌≡◌, ltb, take}
 use Rattle.std.proofs.Math.Path.{refl, sym, ap, ap₂, subst}
 use mathlib.Core.List.{List, [], ◌∷◌, ◌++◌, map, append_assoc, drop_last}

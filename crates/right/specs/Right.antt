@@ -292,7 +292,8 @@ module _ (q : Query) (d : Doc) (w : InLimits q d) (n : Numbers) (E : Elements) (
       (λ b a.
       StepOwed q d (some (Stream.closes x)) n E N out
       (first_or false bad_record
-      (first_or (finished d) after_end (first_or (not b) wrong_close (first_or false too_deep (first_or false too_many_nodes (first_or false too_many_held none)))))) a)
+      (first_or (finished d) after_end
+      (first_or (not b) wrong_close (first_or false too_deep (first_or false too_many_nodes (first_or false too_many_held none)))))) a)
       (sym (ends_read q d n E N st x))
       (sym (ap (λ r. when (eqb r 0) (close_taken (plan q) n E N out) (refused_with r n E N out)) (close_rows_lem x)))
       (close_table q d (some (Stream.closes x)) n E N out (finished d) (eqb n.depth 0) (eqb (frame_at E (n.depth - 1)).name x)

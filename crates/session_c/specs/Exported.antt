@@ -10,9 +10,7 @@
 --                           `compassflare_finish`: the result r, and all that was lent on return, are those
 --
 -- Assumes nothing. NOT here: the session in bytes (Laid), the query's answer as a number (crate query_c, Packed), that the promises allow one result (Laws).
-pub mod Laws
 pub mod Offered
-pub mod Read
 use Rattle.std.specs.Prelude.{ℕ, ◌*◌, ◌/◌, ◌≡◌, List, eqb, length}
 use Rattle.choice.specs.When.{when}
 use Rattle.query.specs.Answer as query

@@ -8,7 +8,6 @@
 --   counts_room, count_bytes a b     how many bytes two counts take, and these bytes: 8 for each, low byte first
 --
 -- Assumes nothing. NOT here: what is kept of a query (crate plan_bytes, Kept), the numbers in bytes (crate numbers, Numbers).
-pub mod Laws
 use Rattle.std.specs.Prelude.{ℕ, ◌+◌, ◌/◌, ◌%◌, not, List, [], ◌∷◌, ◌++◌, eqb, take, drop}
 use mir.Val.{bool_byte}
 use Rattle.choice.specs.When.{when}

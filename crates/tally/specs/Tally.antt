@@ -3,7 +3,8 @@
 --   refuse_open n             the lowest refusal of an open that the numbers decide; 0 for none
 --   refuse_close n E x        the same for a close of x, by the numbers and the innermost name
 --   OpenFits n, CloseFits n  what is known of the numbers where no refusal by them applies
---   open_numbers n held listed, close_numbers n held listed     the numbers after an open, or a close, that handed out `listed` nodes and after which `held` wait
+--   open_numbers n held listed, close_numbers n held listed     the numbers after an open, or a close, that handed out `listed` nodes and after which `held`
+--                            wait
 --
 -- Numbers that no calls lead to may be past every limit: an open or a close is then refused too, so that no record is left.
 -- Assumes nothing. NOT here: refusals 1 and 15 (crate lent), 11 and the stop (crate stop), 2 and 7 (crate step).

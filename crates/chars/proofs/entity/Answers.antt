@@ -9,9 +9,6 @@ pub loop-row-init : goal.loop-row-init
 unfolding entity_row
 loop-row-init c = (omega arith, refl)
 
-pub goes_on-requires : goal.goes_on-requires
-goes_on-requires c = (refl, omega arith)
-
 pub returns-then-goes_on : goal.returns-then-goes_on
 returns-then-goes_on c =
     let a = c.args in

@@ -83,7 +83,9 @@ module _ (t : List ℕ) (k : ℕ) (some : 0 < length t) where
   rest = drop (line_length t + 1) t
 
   lines_are : lines_of t ≡ take (line_length t) t ∷ lines_of rest
-  lines_are = lines_first t 0 some ∙ ap (λ n. take (line_length t) t ∷ lines_of (drop n t)) (let e : 0 + line_length t + 1 ≡ line_length t + 1 = omega arith in e)
+  lines_are =
+      lines_first t 0 some
+      ∙ ap (λ n. take (line_length t) t ∷ lines_of (drop n t)) (let e : 0 + line_length t + 1 ≡ line_length t + 1 = omega arith in e)
 
   start_next : start_of (lines_of t) (suc k) ≡ line_length t + 1 + start_of (lines_of rest) k
   unfolding start_of

@@ -95,7 +95,8 @@ passed m [] (suc k) l f = absurd (omega arith)
 passed m (line ∷ ls) (suc k) l f =
     let here : fault_of m line ≡ 0 = ap (λ j. fault_of j line) (let z : m ≡ m + 0 = omega arith in z) ∙ f 0 (omega arith) in
     when_true _ _ _ (eq-eqb _ _ here)
-    ∙ passed (suc m) ls k (omega arith) (λ i h. ap (λ j. fault_of j (line_at ls i)) (let z : suc m + i ≡ m + suc i = omega arith in z) ∙ f (suc i) (omega arith))
+    ∙ passed (suc m) ls k (omega arith)
+    (λ i h. ap (λ j. fault_of j (line_at ls i)) (let z : suc m + i ≡ m + suc i = omega arith in z) ∙ f (suc i) (omega arith))
     ∙ ap (λ j. answer_from j (drop k ls)) (let z : suc m + k ≡ m + suc k = omega arith in z)
 
 is_first : (m : ℕ) (ls : List (List ℕ)) (r n : ℕ) → 0 < r → FirstFrom m ls r n → answer_from m ls ≡ refused r n

@@ -161,7 +161,8 @@ unfolding listed
 handed_within q p c i =
     let l = listed q (document p.events) in
     let d = document (after q p c).events in
-    let e : get_or (l ++ handed_by (answer q p c)) (length l + i) 0 ≡ get_or (handed_by (answer q p c)) i 0 = get_or-append-add l (handed_by (answer q p c)) i 0 in
+    let e : get_or (l ++ handed_by (answer q p c)) (length l + i) 0 ≡ get_or (handed_by (answer q p c)) i 0 =
+    get_or-append-add l (handed_by (answer q p c)) i 0 in
     let g : get_or (listed q d) (length l + i) 0 ≤ 1 + length (standings q d) = listed_within 1 (standings q d) _ in
     let k : length (standings q d) ≡ count d = length_standings q d in
     omega (arith, ap (λ ns. get_or ns (length l + i) 0) (call_listed q p c))

@@ -39,7 +39,8 @@ use Rattle.meaning.specs.Answer.{Lent, Call, event, finish, Answer, refused, Pas
 use Rattle.meaning.specs.Answer.{closes_wrong, act_if, event_refusals, finish_refusals, refusals, yield, answer, events_of}
 use Rattle.meaning.specs.Answer.Laws.{Applies, Gives, refuses, yields}
 use Rattle.meaning.proofs.Answer.Laws.{answer_gives, gives_unique, never_refuses, act_document}
-use Rattle.meaning.specs.Answer.Exactly.{TooSmall, Due, short_output_lem, short_room_lem, already_stopped_lem, bad_record_lem, document_closed, wrong_close_lem, too_deep_lem, too_many, too_many_held_lem, no_document, still_open}
+use Rattle.meaning.specs.Answer.Exactly.{TooSmall, Due, short_output_lem, short_room_lem, already_stopped_lem, bad_record_lem, document_closed}
+use Rattle.meaning.specs.Answer.Exactly.{wrong_close_lem, too_deep_lem, too_many, too_many_held_lem, no_document, still_open}
 
 -- an open, where a line asks for one
 opening : (o : Option Event) (b : Bool) → T (is_opening o && b) → (n : ℕ) × (o ≡ some (opens n)) × T b

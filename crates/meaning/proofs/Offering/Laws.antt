@@ -115,7 +115,8 @@ module _ (q : Query) where
   pub offering_short : (es : List Event) (bs : List ℕ) → length bs < 8 → offering q 1 es bs ≡ refused_after es 2
   offering_short es bs h =
       refused_record es bs 2
-      (unfold refusals event_refusals too_small first first_or is_bad output_needed elements_needed nodes_needed element_record waiting_record depth_limit held_limit in
+      (unfold refusals event_refusals too_small first first_or is_bad output_needed elements_needed nodes_needed element_record waiting_record depth_limit
+      held_limit in
       ap (λ (x : Option Event). first (event_refusals q false (document es) x enough)) (ap event_of (take_all 8 bs (omega arith)) ∙ short_bad bs h))
 
   -- each record that is accepted is one event more

@@ -5,7 +5,7 @@ use Rattle.chains.proofs.Index.Room.{index_words_is}
 use Rattle.names.proofs.Built.{build_length}
 use Rattle.lines.proofs.Put.Laws.{put_taken}
 use Rattle.turns.specs.Owed.{answered_by}
-use Rattle.intake.specs.Names.{names_read}
+use Rattle.intake.proofs.Names.{names_read}
 use Rattle.pick_xml.specs.Program.Laws.{list_lined, names_lined}
 use Rattle.pick_xml.proofs.answer_names.Goals as goal
 

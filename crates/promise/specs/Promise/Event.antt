@@ -2,7 +2,8 @@
 --
 --   Given o bytes .. x d       d is what is owed where x is the first refusal that applies
 --   event_owed                 an event gives what is owed
---   event_answered, event_of_lem, event_written      so its result has the meaning's answer, leads to a session after the past then, and writes the nodes' records
+--   event_answered, event_of_lem, event_written      so its result has the meaning's answer, leads to a session after the past then, and writes the nodes'
+--                              records
 --   room_long                  room that is not too small is long enough
 --
 -- Assumes nothing of the room but that the records in use are those that the last call left.

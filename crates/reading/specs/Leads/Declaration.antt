@@ -79,7 +79,8 @@ module _ (L : Limits) where
   name_byte_lem o encoding x = check_true _ misplaced _ x
   name_byte_lem o standalone x = check_true _ misplaced _ x
 
-  rest_leads : (o : Option Part) (k : Part) → Leads L (State.rows (word (part_rest k) ∷ []) misplaced [] (State.part_eq o k)) (part_rest k) [] (State.part_eq o k)
+  rest_leads :
+      (o : Option Part) (k : Part) → Leads L (State.rows (word (part_rest k) ∷ []) misplaced [] (State.part_eq o k)) (part_rest k) [] (State.part_eq o k)
   rest_leads o version = by_word L _ (State.part_eq o version) _ _ misplaced [] refl
   rest_leads o encoding = by_word L _ (State.part_eq o encoding) _ _ misplaced [] refl
   rest_leads o standalone = by_word L _ (State.part_eq o standalone) _ _ misplaced [] refl
@@ -103,11 +104,13 @@ module _ (L : Limits) where
     pub piece_leads : {o : Option Part} {u v : List ℕ} → Told o u → S v → Leads L j (u ++ v) [] (State.apiece o)
     piece_leads {o} t f = leads_append L (told_leads t) (s_leads L (told_as o) (State.apiece o) (told_blank o) (apiece_blank o) f)
 
-    pub part_leads : {o : Option Part} {u v : List ℕ} (k : Part) → Told o u → T (may_follow o k) → S v → Leads L j (u ++ (v ++ part_name k)) [] (State.part_eq o k)
+    pub part_leads :
+        {o : Option Part} {u v : List ℕ} (k : Part) → Told o u → T (may_follow o k) → S v → Leads L j (u ++ (v ++ part_name k)) [] (State.part_eq o k)
     part_leads {o} {u} {v} k t x f =
         subst (λ z. Leads L j z [] (State.part_eq o k)) (append_assoc u v (part_name k)) (leads_append L (piece_leads t f) (name_leads o k x))
 
-    pub decl_end : {k : Part} {t u : List ℕ} → Told (some k) t → Each blank u → Leads L j (t ++ (u ++ (63 ∷ []))) [] (then_byte 62 [] (State.at Place.before b0))
+    pub decl_end :
+        {k : Part} {t u : List ℕ} → Told (some k) t → Each blank u → Leads L j (t ++ (u ++ (63 ∷ []))) [] (then_byte 62 [] (State.at Place.before b0))
     unfolding in_class step pick when
     decl_end {k} t f =
         leads_append L (told_leads t)

@@ -117,7 +117,8 @@ module _ (L : Limits) where
   texted {t} h f = moved (Refusal.not_char h f) (append-nil t)
 
   module _ (one_open : T (L.nest 1)) (one_name : T (L.name 1)) where
-    begins_said : {p : Place} {k : Br} {t : List ℕ} {es : List Ev} → At L p k t es → (b : ℕ) → In name_start b → Spoken (t ++ (60 ∷ [])) b (Machine.begins L p b)
+    begins_said :
+        {p : Place} {k : Br} {t : List ℕ} {es : List Ev} → At L p k t es → (b : ℕ) → In name_start b → Spoken (t ++ (60 ∷ [])) b (Machine.begins L p b)
     begins_said (before p) b h = check_said _ _ _ (λ f. absurd (f one_open)) (check_said _ _ _ (λ f. absurd (f one_name)) goes')
     begins_said (inside o c) b h = check_said _ _ _ (λ f. said (Refusal.nested (inside o c) f h)) (check_said _ _ _ (λ f. absurd (f one_name)) goes')
     begins_said (after d) b h = says other

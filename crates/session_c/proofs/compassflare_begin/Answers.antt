@@ -1,7 +1,7 @@
 -- The length, and then what the session gives (Exported.Laws). Assumes nothing.
 use mathlib.Core.Path.{sym, ◌∙◌}
-use Rattle.session_c.specs.Laid.Laws.{room_is}
-use Rattle.session_c.specs.Exported.Laws.{begins_none, begins_parts}
+use Rattle.session_c.proofs.Laid.Laws.{room_is}
+use Rattle.session_c.proofs.Exported.Laws.{begins_none, begins_parts}
 use Rattle.session_c.proofs.compassflare_begin.Goals as goal
 
 pub returns-then-session-ne-ROOM : goal.returns-then-session-ne-ROOM

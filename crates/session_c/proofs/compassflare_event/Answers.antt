@@ -3,9 +3,9 @@ use native.Mathlib.Omega.{arith}
 use mathlib.Core.Path.{◌≡◌, refl, sym, ◌∙◌}
 use lib.ListN.{length, take}
 use lib.Seq.{length-take-le}
-use Rattle.session_c.specs.Laid.Laws.{plan_room_lem, room_is, rest_room}
-use Rattle.session_c.specs.Exported.Laws.{takes_none}
-use Rattle.session_c.specs.Exported.Offered.{takes_parts}
+use Rattle.session_c.proofs.Laid.Laws.{plan_room_lem, room_is, rest_room}
+use Rattle.session_c.proofs.Exported.Laws.{takes_none}
+use Rattle.session_c.proofs.Exported.Offered.{takes_parts}
 use Rattle.session_c.proofs.Copied.{copied}
 use Rattle.session_c.proofs.compassflare_event.Goals as goal
 

@@ -1,7 +1,7 @@
 -- The lengths, and then what the session gives (Exported.Laws). Assumes nothing.
 use mathlib.Core.Path.{sym, ◌∙◌}
-use Rattle.session_c.specs.Laid.Laws.{room_is, counts_room_lem}
-use Rattle.session_c.specs.Exported.Laws.{finishes_none, finishes_uncounted, finishes_parts}
+use Rattle.session_c.proofs.Laid.Laws.{room_is, counts_room_lem}
+use Rattle.session_c.proofs.Exported.Laws.{finishes_none, finishes_uncounted, finishes_parts}
 use Rattle.session_c.proofs.compassflare_finish.Goals as goal
 
 pub returns-then-session-ne-ROOM : goal.returns-then-session-ne-ROOM

@@ -1,7 +1,7 @@
 -- The lengths, and then what the session gives (Exported.Laws). Assumes nothing.
 use mathlib.Core.Path.{sym, ◌∙◌}
-use Rattle.session_c.specs.Laid.Laws.{room_is, counts_room_lem}
-use Rattle.session_c.specs.Exported.Laws.{runs_none, runs_uncounted, runs_parts}
+use Rattle.session_c.proofs.Laid.Laws.{room_is, counts_room_lem}
+use Rattle.session_c.proofs.Exported.Laws.{runs_none, runs_uncounted, runs_parts}
 use Rattle.session_c.proofs.compassflare_run.Goals as goal
 
 pub returns-then-session-ne-ROOM : goal.returns-then-session-ne-ROOM

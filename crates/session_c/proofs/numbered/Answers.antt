@@ -1,6 +1,6 @@
 -- Each number as it was read. Assumes nothing.
 use Rattle.numbers.specs.Numbers.{numbers_in}
-use Rattle.session_c.specs.Laid.Laws.{of_parts}
+use Rattle.session_c.proofs.Laid.Laws.{of_parts}
 use Rattle.session_c.proofs.numbered.Goals as goal
 
 pub returns : goal.returns

@@ -1,7 +1,7 @@
 -- Four numbers one after the other; the bytes are those of the numbers, since they are bytes. Assumes nothing.
 use Rattle.std.proofs.Common.{rules}
 use native.Mathlib.Omega.{arith}
-use Rattle.session_c.specs.Laid.Laws.{counts_room_lem, counts_put}
+use Rattle.session_c.proofs.Laid.Laws.{counts_room_lem, counts_put}
 use Rattle.session_c.proofs.put_counts.Goals as goal
 
 pub put-requires : goal.put-requires

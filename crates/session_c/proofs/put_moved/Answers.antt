@@ -4,7 +4,7 @@ use native.Mathlib.Omega.{arith}
 use mathlib.Core.Path.{sym, ◌∙◌}
 use Rattle.choice.specs.When.{when_true, when_false}
 use Rattle.session_c.specs.Exported.{moved_by}
-use Rattle.session_c.specs.Laid.Laws.{room_is, rest_room, marked_parts}
+use Rattle.session_c.proofs.Laid.Laws.{room_is, rest_room, marked_parts}
 use Rattle.session_c.proofs.put_moved.Goals as goal
 
 pub slice_bounds-mark-start : goal.slice_bounds-mark-start

@@ -1,6 +1,6 @@
 -- The bytes are those of the numbers, since they are bytes. Assumes nothing.
 use Rattle.std.proofs.Common.{rules}
-use Rattle.session_c.specs.Laid.Laws.{numbers_laid}
+use Rattle.session_c.proofs.Laid.Laws.{numbers_laid}
 use mathlib.Core.Path.{ap, ◌∙◌}
 use Rattle.numbers.specs.Numbers.{Numbers, with_stop}
 use Rattle.session_c.proofs.put_numbers.Goals as goal

@@ -4,7 +4,7 @@ use native.Mathlib.Omega.{arith}
 use mathlib.Core.Path.{◌≡◌}
 use lib.ListN.{length}
 use Rattle.session_c.specs.Laid.{session_room}
-use Rattle.session_c.specs.Laid.Laws.{room_is, rest_room, put_parts}
+use Rattle.session_c.proofs.Laid.Laws.{room_is, rest_room, put_parts}
 use Rattle.session_c.proofs.Copied.{copied}
 use Rattle.session_c.proofs.put_session.Goals as goal
 

@@ -3,7 +3,7 @@ use native.Mathlib.Omega.{arith}
 use mathlib.Core.Path.{◌≡◌, refl, sym}
 use lib.ListN.{length, take}
 use lib.Seq.{length-take-le}
-use Rattle.session_c.specs.Laid.Laws.{room_is, rest_room, read_parts}
+use Rattle.session_c.proofs.Laid.Laws.{room_is, rest_room, read_parts}
 use Rattle.session_c.proofs.Copied.{copied}
 use Rattle.session_c.proofs.session_in.Goals as goal
 

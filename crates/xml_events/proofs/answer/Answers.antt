@@ -4,7 +4,7 @@ use mathlib.Core.Logic.{inl}
 use mathlib.Core.Path.{refl}
 use Rattle.chains.proofs.Index.Room.{index_words_is}
 use Rattle.names.proofs.Built.{build_length}
-use Rattle.intake.specs.Names.{names_read}
+use Rattle.intake.proofs.Names.{names_read}
 use Rattle.xml_events.specs.Program.Laws.{list_lined, names_lined, answered_by}
 use Rattle.xml_events.proofs.answer.Goals as goal
 

@@ -31,7 +31,7 @@ use Rattle.session.specs.Event.{Done, stopped_by, event}
 use Rattle.session.specs.Event.Laws.{stopped_other, event_refused}
 use Rattle.session.specs.Run.{Housed, housed, refusal_of, came_as, event_at}
 use Rattle.session_c.specs.Laid.{session_room, session_of, session_in, marked_bytes, counts_room}
-use Rattle.session_c.specs.Laid.Laws.{plan_room_lem, room_is, six, six_words, rest_long, rest_bytes, marked_is}
+use Rattle.session_c.proofs.Laid.Laws.{plan_room_lem, room_is, six, six_words, rest_long, rest_bytes, marked_is}
 use Rattle.session_c.specs.Exported.{Took, laid_by, took_with, took, Blocked, moved_by, blocked_with, blocked}
 
 -- a session with another stop
@@ -84,7 +84,8 @@ module _ (S : List ℕ) (long : length S ≡ session_room) (bytes-S : Bytes S) w
       let kept_long : length (take plan_room S) ≡ plan_room = length-take-le plan_room S (omega (arith, plan_room_lem, room_is)) in
       let X : List ℕ = bytes_of (six (with_stop 1 n)) in
       ap session_in (sym (marked_is S long bytes-S))
-      ∙ ap₂ (λ (x y : List ℕ). session_of x (numbers_in y)) (take_at (take plan_room S) X plan_room kept_long) (drop_at (take plan_room S) X plan_room kept_long)
+      ∙ ap₂ (λ (x y : List ℕ). session_of x (numbers_in y))
+      (take_at (take plan_room S) X plan_room kept_long) (drop_at (take plan_room S) X plan_room kept_long)
       ∙ ap (session_of (take plan_room S)) numbers_back
       ∙ ap (stopping (session_in S)) (sym (or-true (session_in S).stopped))
   read_by false = ap (stopping (session_in S)) (sym (or-false (session_in S).stopped))

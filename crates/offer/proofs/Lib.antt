@@ -1,0 +1,2 @@
+-- The proofs of crate offer.
+pub mod Alike

@@ -1,0 +1,4 @@
+-- What is shown of specs/Exported.
+pub mod Laws
+pub mod Read
+pub mod Offered

@@ -1,0 +1,2 @@
+-- What is shown of specs/Laid.
+pub mod Laws
