@@ -155,8 +155,8 @@ fn offer_next(
         &mut nodes[..some_nodes],
         &mut out[..some_out],
     );
-    say_step(to, number, step, &*out);
     let next = step.session;
+    say_step(to, number, step, &*out);
     Offered {
         session: next,
         going: true,
