@@ -4,7 +4,7 @@
 --   over_picked          after the last turn the text is worked on, and all that it lists is delivered
 --
 -- N and X are the list of names and its index, E and M the room. Assumes nothing.
-use Rattle.std.specs.Prelude.{ℕ, zero, suc, ◌+◌, ◌-◌, ◌*◌, ◌≤◌, ◌⊎◌, ◌≡◌, refl, true, length}
+use Rattle.std.specs.Prelude.{ℕ, zero, suc, ◌*◌, ◌≤◌, ◌⊎◌, ◌≡◌, refl, true, length}
 use Rattle.std.proofs.Common.{arith, inl, inr, ◌∙◌, subst, length-drop, take-append-drop}
 use Rattle.std.proofs.Math.Decide.{ℕ_discrete}
 use Rattle.std.proofs.Math.Path.{sym, ap}
