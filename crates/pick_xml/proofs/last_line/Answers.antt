@@ -23,7 +23,7 @@ returns-then-verdict-ne0 c =
     let line = c.put_refused_at.ensures in
     let st = c.args.stand in
     record {
-      put = put_line (line_text st c.if-state-ne0.false _ c.judge-verdict.ensures c.if-verdict-ne0.true) line.put;
+      put = put_line (line_text st (omega arith) _ c.judge-verdict.ensures c.if-verdict-ne0.true) line.put;
       prefix_len = line.prefix_len;
     }
 
@@ -37,6 +37,6 @@ returns c =
     let st = c.args.stand in
     let judged = c.judge-verdict.ensures in
     record {
-      put = put_line (line_finish st c.if-state-ne0.false f.result (finish_is _ f.result f.ensures) _ judged c.if-verdict-ne0.false) line.put;
+      put = put_line (line_finish st (omega arith) f.result (finish_is _ f.result f.ensures) _ judged c.if-verdict-ne0.false) line.put;
       prefix_len = line.prefix_len;
     }
