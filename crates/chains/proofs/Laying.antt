@@ -6,6 +6,7 @@
 --   more            there is a further line, which ends at byte `end`;  short: it has few bytes;  place_within: its words are in y
 --   turn            what the turn makes
 --   lay_done        at the end every place is laid
+--   laying          the laws that close the bounds of the turn
 --
 -- Assumes nothing.
 use Prim.Native.Nat.{ℕ, suc, ◌+◌, ◌-◌, ◌*◌, ◌≤◌, ◌<◌}
@@ -17,7 +18,7 @@ use mathlib.Core.List.{List, [], ◌∷◌, ◌++◌, append_assoc}
 use lib.ListN.{length, set, take, drop, length-set, length-drop}
 use lib.Seq.{sets, sets-eq, drop-cons, length-take-le}
 use Rattle.listed.specs.Lines.{lines_of, line_length, line_at}
-use Rattle.listed.specs.Lines.Laws.{line_within, lines_first, lines_done}
+use Rattle.listed.specs.Lines.Laws.{line_within, line_ends, lines_first, lines_done}
 use Rattle.spelling.specs.Bucket.{buckets}
 use Rattle.spelling.specs.Bucket.Laws.{buckets_is}
 use Rattle.chains.specs.Index.{link_of, entries, laid_in, Ready}
@@ -122,3 +123,5 @@ module _ {names x : List ℕ} (ready : Ready names x) {y : List ℕ} {count at :
             ∙ sets-eq E x buckets (omega (arith, ready_room ready, long)) ∙ append_assoc (take buckets x) E _
             ∙ ap (λ k. take buckets x ++ (E ++ drop (buckets + k) x)) long,
       )
+
+pub ruleset laying = (length-set, ready_few, ready_words, more, short, place_within, line_ends)

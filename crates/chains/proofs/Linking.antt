@@ -5,9 +5,12 @@
 --   entry_within     that place has its two words in y;  entry_fits: and they say what stands in the list
 --   bucket_small, linked_small      its bucket and its new link are small numbers;  bucket_within: the bucket's head is in y
 --   turn             what the turn makes
+--   linking          the laws that close the bounds of the turn
 --
 -- Assumes nothing.
 use Prim.Native.Nat.{ℕ, suc, ◌+◌, ◌-◌, ◌*◌, ◌/◌, ◌≤◌, ◌<◌}
+use native.Mathlib.Nat.{add_comm}
+use native.Mathlib.Numerals.{add-one}
 use native.Mathlib.Omega.{arith}
 use mathlib.Core.Path.{◌≡◌, sym, ap, ap₂, ◌∙◌}
 use mathlib.Core.List.{List}
@@ -82,25 +85,28 @@ module _ {names x : List ℕ} (ready : Ready names x) {y : List ℕ} {left : ℕ
           ready_few ready,
         )
 
-    pub linked_small : get_or y b 0 + get_or y (entry left + 1) 0 < 4294967296
+    pub linked_small : get_or y (entry left + 1) 0 + get_or y b 0 < 4294967296
     linked_small = omega (arith, link_small, head_small)
 
     linked_is :
-        get_or y b 0 + get_or y (entry left + 1) 0
+        get_or y (entry left + 1) 0 + get_or y b 0
         ≡ link_of (next (suc (suc (left - 1))) (lines_of names) (left - 1)) (length (line_at (lines_of names) (left - 1)))
     linked_is =
-        ap₂ ◌+◌ (head_is ∙ ap₂ (λ h k. first_in h (suc k) (drop k (lines_of names))) is_b (down left some)) link_is ∙ omega arith
+        add_comm (get_or y (entry left + 1) 0) (get_or y b 0)
+        ∙ ap₂ ◌+◌ (head_is ∙ ap₂ (λ h k. first_in h (suc k) (drop k (lines_of names))) is_b (down left some)) link_is ∙ omega arith
 
-    pub turn : Chaining names x (set (set y (entry left + 1) (get_or y b 0 + get_or y (entry left + 1) 0)) b left) (left - 1)
+    pub turn : Chaining names x (set (set y (entry left + 1) (get_or y (entry left + 1) 0 + get_or y b 0)) b (left - 1 + 1)) (left - 1)
     turn =
         let ls = lines_of names in
         let k = left - 1 in
-        let v = get_or y b 0 + get_or y (entry left + 1) 0 in
+        let v = get_or y (entry left + 1) 0 + get_or y b 0 in
         record {
           long = simp length-set s.long;
           most = omega (arith, there);
           words =
-              ap₂ (λ t n. set (set t (n + 2 * k + 1) v) b left) (s.words ∙ ap (λ n. partly ls n x) (down left some)) (sym buckets_is)
-              ∙ ap (λ n. set (set (partly ls (suc k) x) (buckets + 2 * k + 1) v) b n) (down left some)
+              ap₂ (λ t n. set (set t (n + 2 * k + 1) v) b (k + 1)) (s.words ∙ ap (λ n. partly ls n x) (down left some)) (sym buckets_is)
+              ∙ ap (λ n. set (set (partly ls (suc k) x) (buckets + 2 * k + 1) v) b n) (add-one k)
               ∙ partly_linked ls x k there b is_b v linked_is;
         }
+
+pub ruleset linking = (length-set, ready_few, ready_words, entry_fits, bucket_small, bucket_within, linked_small)

@@ -21,23 +21,22 @@ pub fn fill(names: &[u8], index: &mut [u32])
 }
 
 // Every bucket is empty.
+#[tactic(auto, using(crate::proofs::Index::Room::index_words_is))]
 fn clear(index: &mut [u32])
     requires { index_words ≤ length index.old }
     ensures { index.new ≡ cleared index.old }
 {
-    let mut i: usize = 0;
-    while i < spelling::BUCKETS {
-        index[i] = 0;
-        i += 1;
-    }
+    index[..spelling::BUCKETS].fill(0);
 }
 
 // The offset and the length of each name. Answers how many there are.
+#[tactic(auto, using(crate::proofs::Laying::laying))]
 fn lay(names: &[u8], index: &mut [u32]) -> usize
     requires { Ready names.now index.old }
     ensures value { result ≡ length (lines_of names.now) }
     ensures index_after { index.new ≡ laid_in names.now index.old }
 {
+    // Kept: a turn goes on by a whole line and not by one byte, and needs where the line begins: `split` and the like would give the bytes without that.
     let mut count: usize = 0;
     let mut at: usize = 0;
     while at < names.len() {
@@ -52,17 +51,16 @@ fn lay(names: &[u8], index: &mut [u32]) -> usize
 }
 
 // Puts each place in front of the chain of its bucket, the last place first: so a chain begins with its first place.
+#[tactic(auto, using(crate::proofs::Linking::linking))]
 fn link(names: &[u8], index: &mut [u32], count: usize)
     requires { Laid names.now index.old count }
     ensures { index.new ≡ built names.now index.old }
 {
-    let mut left = count;
-    while 0 < left {
-        let entry = spelling::BUCKETS + 2 * (left - 1);
+    for place in (0..count).rev() {
+        let entry = spelling::BUCKETS + 2 * place;
         let bucket = bucket_at(names, index, entry);
-        index[entry + 1] = index[bucket] + index[entry + 1];
-        index[bucket] = left as u32;
-        left -= 1;
+        index[entry + 1] += index[bucket];
+        index[bucket] = place as u32 + 1;
     }
 }
 

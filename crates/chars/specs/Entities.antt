@@ -4,10 +4,11 @@
 --   goes_on T row like n b        the entity at row begins with the first n bytes of the one at `like`, and then has b
 --   entity_from T like n b row k  the first such row from row on, of the k there; no_entity for none
 --   entity_row like n b           the first such row of all
+--   row_in k                      the row k as the code has it: none for no_entity
 --
 -- Assumes nothing. NOT here: that these are the grammar's (crate text_right, Entities).
 pub mod Laws
-use Rattle.std.specs.Prelude.{ℕ, zero, suc, ◌+◌, ◌*◌, Bool, false, List, [], ◌∷◌, eqb, leb, get_or}
+use Rattle.std.specs.Prelude.{ℕ, zero, suc, ◌+◌, ◌*◌, Bool, false, Option, Some, None, List, [], ◌∷◌, eqb, leb, get_or}
 use Rattle.choice.specs.When.{when}
 use Rattle.chars.specs.Same.{same_bytes}
 
@@ -34,3 +35,6 @@ entity_from T like n b row (suc k) = when (goes_on T row like n b) row (entity_f
 
 unfoldable pub entity_row : ℕ → ℕ → ℕ → ℕ
 entity_row like n b = entity_from entity_table like n b 0 5
+
+abbrev pub row_in : ℕ → Option ℕ
+row_in k = when (eqb k no_entity) None (Some k)

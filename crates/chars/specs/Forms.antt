@@ -9,10 +9,17 @@
 --   lowest_in f, highest_in f     the least and the greatest byte that the form f goes on with
 --   follows f b                 what is left after the byte b: a form, `whole`, or 0 where f does not go on so
 --
+-- The numbers as the code has them:
+--
+--   form_in n       the form n, or none where n is 0
+--   left_of n       nothing where n is `whole`, else the form n;  left_in n: the same, or none where n is 0
+--
 -- Assumes nothing. NOT here: that these are the rows of Unicode's table (crate text_right, Forms).
 pub mod Laws
-use Rattle.std.specs.Prelude.{ℕ, eqb, leb, ltb}
+use Rattle.std.specs.Prelude.{ℕ, Option, Some, None, eqb, leb, ltb}
 use Rattle.choice.specs.When.{when}
+use Rattle.chars.specs.declared.Left.{Left}
+use Rattle.chars.specs.declared.Left.TheVariants.{Nothing, Form}
 
 abbrev pub whole : ℕ
 whole = 10
@@ -37,3 +44,12 @@ rest_of f b =
 
 unfoldable pub follows : ℕ → ℕ → ℕ
 follows f b = when (ltb b (lowest_in f)) 0 (when (ltb (highest_in f) b) 0 (rest_of f b))
+
+abbrev pub form_in : ℕ → Option ℕ
+form_in n = when (eqb n 0) None (Some n)
+
+abbrev pub left_of : ℕ → Left
+left_of n = when (eqb n whole) Nothing (Form n)
+
+abbrev pub left_in : ℕ → Option Left
+left_in n = when (eqb n 0) None (Some (left_of n))

@@ -4,8 +4,8 @@
 ghost use Rattle.std.specs.Prelude.{◌≡◌, ◌+◌, ◌≤◌, ◌<◌, length, drop};
 ghost use Rattle.chars.specs.Marks.{marked, span};
 ghost use Rattle.chars.specs.Same.{same_bytes};
-ghost use Rattle.chars.specs.Entities.{goes_on, entity_row};
-ghost use Rattle.chars.specs.Forms.{lead_form, lowest_in, highest_in, rest_of, follows};
+ghost use Rattle.chars.specs.Entities.{goes_on, entity_row, row_in};
+ghost use Rattle.chars.specs.Forms.{lead_form, lowest_in, highest_in, rest_of, follows, form_in, left_of, left_in};
 
 pub mod marks;
 
@@ -27,6 +27,7 @@ pub const NAME_START: u8 = 32;
 pub const BLANK: u8 = 64;
 
 // Whether a byte has a mark.
+#[tactic(auto, unfolding(crate::specs::Marks::marked))]
 pub fn has(marks: &[u8; 256], b: u8, mark: u8) -> bool
     ensures { result ≡ marked marks.now b mark }
 {
@@ -38,117 +39,85 @@ pub fn skip(marks: &[u8; 256], text: &[u8], from: usize, mark: u8) -> usize
     requires { from ≤ length text.now }
     ensures { result ≡ from + span marks.now mark (drop from text.now) }
 {
-    let mut i = from;
-    while i < text.len() {
-        let b = text[i];
-        if marks[b as usize] & mark == 0 {
+    for i in from..text.len() {
+        if !has(marks, text[i], mark) {
             return i;
         }
-        i += 1;
     }
-    i
+    text.len()
 }
 
-// A character that is whole, beside the forms 1 to 9 of one that is not.
-pub const WHOLE: u8 = 10;
+// What is left of a character after some of its bytes: nothing, or what a form 1 to 9 says.
+#[derive(Clone, Copy, PartialEq, Eq)]
+pub enum Left {
+    Nothing,
+    Form(u8),
+}
 
-// What is left of a character after its first byte, as the number of a form, or 0 where no character begins so.
-pub fn lead(b: u8) -> u8
-    ensures { result ≡ lead_form b }
+// The form that is left of a character after its first byte, or none where no character of several bytes begins so.
+#[tactic(auto, unfolding(crate::specs::Forms::lead_form, choice::specs::When::when))]
+pub fn lead(b: u8) -> Option<u8>
+    ensures { result ≡ form_in (lead_form b) }
 {
-    if b < 194 {
-        return 0;
+    match b {
+        194..=223 => Some(1),
+        224 => Some(4),
+        225..=236 | 238 => Some(2),
+        237 => Some(5),
+        239 => Some(6),
+        240 => Some(8),
+        241..=243 => Some(3),
+        244 => Some(9),
+        _ => None,
     }
-    if b < 224 {
-        return 1;
-    }
-    if b == 224 {
-        return 4;
-    }
-    if b == 237 {
-        return 5;
-    }
-    if b == 239 {
-        return 6;
-    }
-    if b < 240 {
-        return 2;
-    }
-    if b == 240 {
-        return 8;
-    }
-    if b < 244 {
-        return 3;
-    }
-    if b == 244 {
-        return 9;
-    }
-    0
 }
 
 // The lowest byte that a form goes on with, and the highest.
+#[tactic(auto, unfolding(crate::specs::Forms::lowest_in, choice::specs::When::when))]
 fn lowest(form: u8) -> u8
     ensures { result ≡ lowest_in form }
 {
-    if form == 4 {
-        return 160;
+    match form {
+        4 => 160,
+        8 => 144,
+        _ => 128,
     }
-    if form == 8 {
-        return 144;
-    }
-    128
 }
 
+#[tactic(auto, unfolding(crate::specs::Forms::highest_in, choice::specs::When::when))]
 fn highest(form: u8) -> u8
     ensures { result ≡ highest_in form }
 {
-    if form == 5 {
-        return 159;
+    match form {
+        5 => 159,
+        7 => 189,
+        9 => 143,
+        _ => 191,
     }
-    if form == 7 {
-        return 189;
-    }
-    if form == 9 {
-        return 143;
-    }
-    191
 }
 
-// The form after one of its bytes.
-fn rest(form: u8, b: u8) -> u8
-    ensures { result ≡ rest_of form b }
+// What is left of a form after one of its bytes.
+#[tactic(auto, unfolding(crate::specs::Forms::rest_of, choice::specs::When::when))]
+fn rest(form: u8, b: u8) -> Left
+    ensures { result ≡ left_of (rest_of form b) }
 {
-    if form == 1 {
-        return WHOLE;
+    match form {
+        1 | 7 => Left::Nothing,
+        3 | 8.. => Left::Form(2),
+        6 if b == 191 => Left::Form(7),
+        _ => Left::Form(1),
     }
-    if form == 7 {
-        return WHOLE;
-    }
-    if form == 3 {
-        return 2;
-    }
-    if 8 <= form {
-        return 2;
-    }
-    if form == 6 {
-        if b == 191 {
-            return 7;
-        }
-    }
-    1
 }
 
-// What is left of a character after another byte: a form, WHOLE, or 0 where the form does not go on so.
-pub fn follow(form: u8, b: u8) -> u8
-    ensures { result ≡ follows form b }
+// What is left of a form after another byte, or none where the form does not go on so.
+#[tactic(auto, using(crate::specs::Forms::Laws::left_in_rest), unfolding(crate::specs::Forms::follows, choice::specs::When::when))]
+pub fn follow(form: u8, b: u8) -> Option<Left>
+    ensures { result ≡ left_in (follows form b) }
 {
-    if b < lowest(form) {
-        return 0;
+    if b < lowest(form) || highest(form) < b {
+        return None;
     }
-    if highest(form) < b {
-        return 0;
-    }
-    rest(form, b)
+    Some(rest(form, b))
 }
 
 // Whether the n bytes of `a` from i on are those of `b` from j on.
@@ -166,36 +135,22 @@ const ENTITIES: [u8; 30] = [
     b'p', b'o', b's', b';', 39, b'q', b'u', b'o', b't', b';', 34,
 ];
 
-pub const NO_ENTITY: u8 = 5;
+// How many there are.
+const ROWS: u8 = 5;
 
 // Whether a row of the entities begins with the first n bytes of the row `like` and then has the byte b.
+#[tactic(auto, unfolding(crate::specs::Entities::goes_on, choice::specs::When::when))]
 fn goes_on(table: &[u8], row: usize, like: usize, n: usize, b: u8) -> bool
     requires { (length table.now ≡ 30) × (row < 5) }
     ensures { result ≡ goes_on table.now row like n b }
 {
-    if 5 <= n {
-        return false;
-    }
-    if 5 <= like {
-        return false;
-    }
-    if same(table, 6 * row, table, 6 * like, n) {
-        return table[6 * row + n] == b;
-    }
-    false
+    n < 5 && like < 5 && same(table, 6 * row, table, 6 * like, n) && table[6 * row + n] == b
 }
 
-// The first entity whose spelling begins with the first n bytes of the entity `like` and then b: its row, or NO_ENTITY.
-pub fn entity(like: u8, n: u8, b: u8) -> u8
-    ensures { result ≡ entity_row like n b }
+// The row of the first entity whose spelling begins with the first n bytes of the entity `like` and then b, if there is one.
+pub fn entity(like: u8, n: u8, b: u8) -> Option<u8>
+    ensures { result ≡ row_in (entity_row like n b) }
 {
     let table = ENTITIES;
-    let mut row: u8 = 0;
-    while row < NO_ENTITY {
-        if goes_on(&table, row as usize, like as usize, n as usize, b) {
-            return row;
-        }
-        row += 1;
-    }
-    NO_ENTITY
+    (0..ROWS).find(|row| goes_on(&table, *row as usize, like as usize, n as usize, b))
 }

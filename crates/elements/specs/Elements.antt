@@ -1,6 +1,7 @@
 -- What the functions on the open elements do to all records: the engine's own functions (crate engine, Quick) on the records in use, the others as they were.
 --
 --   with fs E                 the records E with the frames fs
+--   ready_at g P fs l          whose turn it is in the content of the element at level l, in the reading of field g; level 0 is the document
 --   Risen                     how many of the open elements stayed as they were, and the records
 --   risen_in P a depth E       a rises through the first `depth` records
 --   refreshed_from P s from to E     the records from `from` to `to` with `sure` computed again, under s
@@ -8,14 +9,17 @@
 --
 -- Assumes nothing.
 pub mod Laws
-use Rattle.std.specs.Prelude.{ℕ, ◌+◌, ◌-◌, List, ◌++◌, length, take, drop}
+use Rattle.std.specs.Prelude.{ℕ, ◌+◌, ◌-◌, List, ◌∷◌, ◌++◌, map, length, get_or, take, drop}
 use Rattle.sets.specs.Set.{meet, without}
 use Rattle.plan.specs.Plan.{Plan, named}
 use Rattle.engine.specs.Quick.{Frame, Rise, rise, refresh, frames_after}
-use Rattle.element.specs.Element.{Elements}
+use Rattle.element.specs.Element.{Elements, field_of}
 
 abbrev pub with : List Frame → Elements → Elements
 with fs E = record { list = fs; spare = E.spare }
+
+unfoldable pub ready_at : ℕ → Plan → List Frame → ℕ → ℕ
+ready_at g P fs l = get_or (P.first ∷ map (field_of g) fs) l 0
 
 pub record Risen : Type 0 where
   pub top : ℕ

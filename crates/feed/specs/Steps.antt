@@ -25,6 +25,7 @@ use Rattle.node.specs.Node.{queue_in}
 use Rattle.numbers.specs.Numbers.{Numbers, Said}
 use Rattle.step.specs.Step.{After}
 use Rattle.stop.specs.Stop.{marked_by, guarded}
+use Rattle.limits.specs.Number.{fault_of}
 use Rattle.feed.specs.declared.Fed as struct
 use Rattle.feed.specs.Fed.{Came, Fed, fed}
 
@@ -61,4 +62,4 @@ pub record Whole (s : Seat) : Type 0 where
 
 abbrev pub FeedGives : Plan → Seat → List ℕ → List ℕ → struct.Fed → Seat → List ℕ → Type 0
 FeedGives P s es out r s' out' =
-    record { seat = s'; taken = r.taken; listed = r.listed; refusal = r.refusal; out = out' } ≡ fed (step_at P) (length es / 8) s es out
+    record { seat = s'; taken = r.taken; listed = r.listed; refusal = fault_of r.refusal; out = out' } ≡ fed (step_at P) (length es / 8) s es out

@@ -2,75 +2,89 @@
 #![tactic(auto)]
 
 ghost use Rattle.std.specs.Prelude.{◌≡◌, ◌*◌, ◌/◌, ◌≤◌, length};
-ghost use Rattle.meaning.specs.Limits.{elements_needed, nodes_needed};
-ghost use Rattle.numbers.specs.Numbers.{numbers_room, numbers_in};
-ghost use Rattle.plan_bytes.specs.Kept.{plan_room, kept_in};
-ghost use Rattle.feed.specs.Fed.{goes_on};
-ghost use Rattle.feed.specs.Steps.{seat, FeedGives};
+ghost use Rattle.meaning.specs.Limits.{output_needed};
+ghost use Rattle.numbers.specs.Numbers.{numbers_in};
+ghost use Rattle.plan_bytes.specs.Kept.{kept_in};
+ghost use Rattle.limits.specs.Number.{fault_in};
+ghost use Rattle.step.specs.Step.{listed_in};
+ghost use Rattle.feed.specs.Steps.{seat, came, step_at, FeedGives};
+
+use element::Elements;
+use limits::Refusal;
+use node::Nodes;
+use numbers::Numbers;
+use plan_bytes::Kept;
 
 // What a block comes to.
-#[derive(Drop)]
+#[derive(Clone, Copy)]
 pub struct Fed {
     // How many events were taken.
     pub taken: usize,
     // How many list records were written, from the start of the buffer.
     pub listed: usize,
-    // The refusal's number, or 0.
-    pub refusal: u8,
+    // Why the next event was refused, if it was.
+    pub refusal: Option<Refusal>,
 }
 
-// Whether another event is looked at: one is left, none was refused, and the buffer has room for all that an event can list.
-fn goes_on(left: usize, refusal: u8, room: usize) -> bool
-    ensures { result ≡ goes_on left refusal room }
+// One event with the stop, in an output buffer that has room enough. Returns how many nodes were handed out.
+pub fn take(
+    kept: &Kept,
+    bytes: &[u8],
+    numbers: &mut Numbers,
+    elements: &mut Elements,
+    nodes: &mut Nodes,
+    out: &mut [u8],
+) -> Result<u32, Refusal>
+    requires { output_needed ≤ length out.old }
+    ensures event_came { came (fault_in result) (listed_in result)
+        (seat (numbers_in numbers.new) elements.new nodes.new) out.new
+        ≡ step_at (kept_in kept.now) (seat (numbers_in numbers.old) elements.old nodes.old)
+        bytes.now out.old }
+    ensures listed_bound { 4 * listed_in result ≤ output_needed }
 {
-    if left == 0 {
-        return false;
-    }
-    if refusal != 0 {
-        return false;
-    }
-    limits::OUTPUT <= room
+    let taken = stop::guard(kept, bytes, numbers, elements, nodes, out);
+    words::are_bytes(elements);
+    words::are_bytes(nodes);
+    taken
 }
 
 // Takes the events of whole records from the start of `events`, one after the other, until they end, one is refused, or less of the buffer is left than an
 // event can need.
 pub fn feed(
-    kept: &[u8],
+    kept: &Kept,
     events: &[u8],
-    numbers: &mut [u8],
-    elements: &mut [u8],
-    nodes: &mut [u8],
+    numbers: &mut Numbers,
+    elements: &mut Elements,
+    nodes: &mut Nodes,
     out: &mut [u8],
 ) -> Fed
-    requires kept_len { (length kept.now ≡ plan_room) × (length numbers.old ≡ numbers_room) }
-    requires elements_len { (length elements.old ≡ elements_needed) × (length nodes.old ≡ nodes_needed) }
     ensures feed_gives { FeedGives (kept_in kept.now)
         (seat (numbers_in numbers.old) elements.old nodes.old) events.now out.old result
         (seat (numbers_in numbers.new) elements.new nodes.new) out.new }
     ensures taken_in_bounds { (8 * result.taken ≤ length events.now) × (4 * result.listed ≤ length out.new) }
 {
-    let mut taken: usize = 0;
     let mut listed: usize = 0;
-    let mut refusal: u8 = 0;
-    while goes_on(events.len() / 8 - taken, refusal, out.len() - 4 * listed) {
-        let at = 8 * taken;
-        let end = at + 8;
+    for (taken, record) in events.chunks_exact(records::EVENT_BYTES).enumerate() {
+        let so_far = Fed {
+            taken,
+            listed,
+            refusal: None,
+        };
         let from = 4 * listed;
-        let r = stop::guard(
-            kept,
-            &events[at..end],
-            numbers,
-            elements,
-            nodes,
-            &mut out[from..],
-        );
-        refusal = r.refusal;
-        listed += r.listed as usize;
-        taken += (refusal == 0) as usize;
+        if out.len() - from < limits::OUTPUT {
+            return so_far;
+        }
+        match take(kept, record, numbers, elements, nodes, &mut out[from..]) {
+            Ok(more) => listed += more as usize,
+            Err(refusal) => return Fed {
+                refusal: Some(refusal),
+                ..so_far
+            },
+        }
     }
     Fed {
-        taken: taken,
-        listed: listed,
-        refusal: refusal,
+        taken: events.len() / records::EVENT_BYTES,
+        listed,
+        refusal: None,
     }
 }

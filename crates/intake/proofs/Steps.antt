@@ -12,6 +12,7 @@ use mathlib.Core.Logic.{◌⊎◌, inl, inr}
 use mathlib.Core.Path.{◌≡◌, refl, sym, ap, ◌∙◌, subst}
 use mathlib.Core.Bool.{Bool, false}
 use mathlib.Core.List.{List, append-nil, ◌++◌}
+use Rattle.std.specs.Prelude.{None}
 use lib.Dec.{eqb}
 use lib.ListN.{length, get_or, take, drop, length-take}
 use lib.Seq.{get_or-take, get_or-drop, length-take-le}
@@ -60,7 +61,7 @@ fed_so N X i u R out z b e =
 
 module _ (file : File) (i : Intake) (input input' : List ℕ) (r : ℕ) where
   abbrev after : Bool → Intake
-  after e = record { reader = i.reader; from = 0; end = r; taken = i.taken; refusal = 0; ended = e; written = 0 }
+  after e = record { reader = i.reader; from = 0; end = r; taken = i.taken; refusal = None; ended = e; written = 0 }
 
   came_with :
       (e : Bool) → e ≡ eqb r 0 → r ≤ length input' → ((before : List ℕ) → Received file before → Received file (before ++ take r input')) →

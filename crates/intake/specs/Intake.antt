@@ -13,8 +13,9 @@
 --
 -- Assumes nothing. NOT here: what they come to together (Intake.Laws).
 pub mod Laws
-use Rattle.std.specs.Prelude.{ℕ, ◌+◌, ◌-◌, ◌≤◌, ◌<◌, ◌⊎◌, ◌≡◌, false, List, ◌++◌, eqb, length, take, drop}
+use Rattle.std.specs.Prelude.{ℕ, ◌+◌, ◌-◌, ◌≤◌, ◌<◌, ◌⊎◌, ◌≡◌, false, List, ◌++◌, Option, None, eqb, length, take, drop}
 use Rattle.choice.specs.When.{when}
+use Rattle.limits.specs.Number.{text_of}
 use Rattle.text_right.proofs.Quiet.{Bytes}
 use Rattle.modes.specs.declared.Reader.{Reader}
 use Rattle.reader.specs.Fed.{fresh_reader}
@@ -22,14 +23,13 @@ use Rattle.reader.specs.Feed.{feed_answer, finish_answer}
 use Rattle.system.specs.declared.File.{File}
 use Rattle.system.specs.Marks.{ReadOver, Received, ReadAt}
 use Rattle.intake.specs.declared.Intake.{Intake}
-use Rattle.intake.specs.declared.Verdict.{Verdict}
-use Rattle.intake.specs.Owed.{nothing}
+use Rattle.intake.specs.Owed.{Judged, refused_at}
 
 abbrev pub longest : ℕ
 longest = 9_223_372_036_854_775_808
 
 abbrev pub begun : Intake
-begun = record { reader = fresh_reader; from = 0; end = 0; taken = 0; refusal = 0; ended = false; written = 0 }
+begun = record { reader = fresh_reader; from = 0; end = 0; taken = 0; refusal = None; ended = false; written = 0 }
 
 abbrev pub unread_text : Intake → List ℕ → List ℕ
 unread_text i input = take (i.end - i.from) (drop i.from input)
@@ -65,7 +65,7 @@ pub record TextCame (file : File) (i : Intake) (input : List ℕ) (i' : Intake) 
   pub within : WithinText i' (length input')
   pub reader_same : i'.reader ≡ i.reader
   pub taken_same : i'.taken ≡ i.taken
-  pub unrefused : i'.refusal ≡ 0
+  pub unrefused : text_of i'.refusal ≡ 0
   pub none_written : i'.written ≡ 0
   pub ended_so : i'.ended ≡ eqb (length bytes) 0
   pub over : length bytes ≡ 0 → 0 < length input → ReadOver file ⊎ (longest ≤ i.taken)
@@ -77,8 +77,8 @@ pub data Advanced (N X : List ℕ) (file : File) (i : Intake) (input R out : Lis
   came : i.end ≤ i.from → R' ≡ R → out' ≡ out → TextCame file i input i' input' → Advanced N X file i input R out i' input' R' out'
 
 unfoldable pub end_of : Reader → ℕ → ℕ
-end_of r q = when (eqb q 0) (finish_answer r).refusal q
+end_of r q = when (eqb q 0) (text_of (finish_answer r).refusal) q
 
-unfoldable pub verdict_for : Intake → Verdict
+unfoldable pub verdict_for : Intake → Option Judged
 verdict_for i =
-    when (eqb (end_of i.reader i.refusal) 0) nothing (record { refusal = end_of i.reader i.refusal; at = i.taken + 1 })
+    when (eqb (end_of i.reader (text_of i.refusal)) 0) None (refused_at (end_of i.reader (text_of i.refusal)) (i.taken + 1))

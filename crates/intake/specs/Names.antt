@@ -10,7 +10,7 @@
 use Rattle.std.specs.Prelude.{ℕ, ◌⊎◌, ◌≡◌, List, [], ◌∷◌, ◌++◌}
 use Rattle.listed.specs.Listed.{list_answer}
 use Rattle.system.specs.declared.File.{File}
-use Rattle.system.specs.Marks.{FileOpened, FileClosed, ReadOver, Received, ReadFull}
+use Rattle.system.specs.Marks.{FileOpened, FileClosed, ReadOver, Received, FileGiven}
 
 -- "names.txt"
 abbrev pub names_name : List ℕ
@@ -29,8 +29,5 @@ pub record FileRead (name bytes : List ℕ) (Enough : Type 0) : Type 0 where
 abbrev pub NamesRead : List ℕ → Type 0
 NamesRead bytes = FileRead names_name bytes ((more : List ℕ) → (list_answer (bytes ++ more)).refusal ≡ 0 → ⊥)
 
-pub record NamesGiven (l : List ℕ) (n : ℕ) : Type 0 where
-  pub file : File
-  pub opened : FileOpened names_name file
-  pub full : ReadFull file l n
-  pub closed : FileClosed file
+abbrev pub NamesGiven : List ℕ → ℕ → Type 0
+NamesGiven = FileGiven names_name

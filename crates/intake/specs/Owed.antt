@@ -1,18 +1,21 @@
 -- What a text comes to: its events, and the refusal that it gets.
 --
---   nothing              no refusal
+--   Judged               a verdict with its refusal's number
+--   judged v             the code's verdict so
+--   refused_at r k        the verdict that refuses with r at k
 --   verdict_by n z        the verdict on a text of n bytes of which the machine came to z
---   text_verdict t        THE VERDICT on a text: the refusal and its byte, counted from 1, or 0 and 0
+--   text_verdict t        THE VERDICT on a text: the refusal and its byte, counted from 1, or none
 --   text_events t         its events, those before the refused byte if there is one
 --   number_in names w     the number of a name by a list
 --   text_records names t  the records of the events
 --   refused_later, refused_same      what follows a refused byte changes nothing of this
 --
 -- Assumes nothing. NOT here: which texts are read, and with which events (crate xml), what a list of names may have (crate listed).
-use Rattle.std.specs.Prelude.{ℕ, ◌+◌, ◌-◌, ◌≡◌, List, ◌++◌, length}
+use Rattle.std.specs.Prelude.{ℕ, ◌+◌, ◌-◌, ◌≡◌, List, ◌++◌, Option, None, Some, length}
 use Rattle.std.proofs.Common.{arith, ◌∙◌, sym, length-append}
 use Rattle.std.proofs.Math.Path.{ap}
 use Rattle.choice.specs.When.{when}
+use Rattle.limits.specs.Number.{text_number}
 use Rattle.xml.specs.Refused.{unended}
 use Rattle.xml.specs.Grammar.{Ev}
 use Rattle.xml.specs.Machine.{State, Result, stopped, stands, run}
@@ -25,18 +28,26 @@ use Rattle.reader_right.specs.Records.{records_in}
 use Rattle.reader_right.specs.Ended.{is_after}
 use Rattle.intake.specs.declared.Verdict.{Verdict}
 
-abbrev pub nothing : Verdict
-nothing = record { refusal = 0; at = 0 }
+pub record Judged : Type 0 where
+  pub refusal : ℕ
+  pub at : ℕ
+
+abbrev pub refused_at : ℕ → ℕ → Option Judged
+refused_at r k = Some (record { refusal = r; at = k })
+
+abbrev pub judged : Option Verdict → Option Judged
+judged None = None
+judged (Some v) = refused_at (text_number v.refusal) v.at
 
 -- "the byte is the one that the refusal is given at, counted from 1"; 44: "one past the last byte"
-abbrev pub verdict_by : ℕ → Result → Verdict
-verdict_by n (stopped es r rest) = record { refusal = r; at = n - length rest + 1 }
-verdict_by n (stands es s) = when (is_after s) nothing (record { refusal = unended; at = n + 1 })
+abbrev pub verdict_by : ℕ → Result → Option Judged
+verdict_by n (stopped es r rest) = refused_at r (n - length rest + 1)
+verdict_by n (stands es s) = when (is_after s) None (refused_at unended (n + 1))
 
 abbrev pub read_text : List ℕ → Result
 read_text t = run bounds t State.start
 
-unfoldable pub text_verdict : List ℕ → Verdict
+unfoldable pub text_verdict : List ℕ → Option Judged
 text_verdict t = verdict_by (length t) (read_text t)
 
 unfoldable pub text_events : List ℕ → List Ev
@@ -53,7 +64,7 @@ module _ (t : List ℕ) (es : List Ev) (r : ℕ) (rest : List ℕ) (e : read_tex
   pub refused_later : (more : List ℕ) → read_text (t ++ more) ≡ stopped es r (rest ++ more)
   refused_later more = cut_anywhere bounds t more State.start ∙ ap (λ z. onward bounds z (run bounds more) more) e
 
-  pub refused_verdict : text_verdict t ≡ record { refusal = r; at = length t - length rest + 1 }
+  pub refused_verdict : text_verdict t ≡ refused_at r (length t - length rest + 1)
   unfolding text_verdict
   refused_verdict = ap (verdict_by (length t)) e
 
@@ -74,6 +85,6 @@ refused_same t es r rest e more =
       same_events = refused_events (t ++ more) es r (rest ++ more) later ∙ sym (refused_events t es r rest e);
       same_verdict =
           refused_verdict (t ++ more) es r (rest ++ more) later
-          ∙ ap (λ k. record { refusal = r; at = k + 1 }) n
+          ∙ ap (λ (k : ℕ). refused_at r (k + 1)) n
           ∙ sym (refused_verdict t es r rest e);
     }

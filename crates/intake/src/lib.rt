@@ -3,9 +3,12 @@
 
 ghost use Rattle.std.specs.Prelude.{◌≡◌, ◌+◌, ◌≤◌, ◌<◌, length};
 ghost use Rattle.io.specs.Counts.{IsPrefixLen};
+ghost use Rattle.limits.specs.Number.{text_of};
 ghost use Rattle.intake.specs.Names.{NamesGiven};
+ghost use Rattle.intake.specs.Owed.{judged};
 ghost use Rattle.intake.specs.Intake.{begun, longest, unread_text, WithinText, FedText, Asked, TextCame, Advanced, end_of, verdict_for};
 
+use limits::TextRefusal;
 use modes::Reader;
 use system::File;
 
@@ -21,18 +24,18 @@ pub struct Intake {
     pub end: usize,
     // How many bytes are read.
     pub taken: u64,
-    // The refusal of the byte after them, or 0.
-    pub refusal: u8,
+    // The refusal of the byte after them, if it is refused.
+    pub refusal: Option<TextRefusal>,
     // Whether no more comes.
     pub ended: bool,
     // How many bytes of event records the last turn has written.
     pub written: usize,
 }
 
-// A refusal, or 0, and where: a line of the list or a byte of the text, counted from 1.
+// A refusal and where: a line of the list or a byte of the text, counted from 1.
 #[derive(Clone, Copy)]
 pub struct Verdict {
-    pub refusal: u8,
+    pub refusal: TextRefusal,
     pub at: u64,
 }
 
@@ -40,13 +43,12 @@ pub struct Verdict {
 pub fn begin() -> Intake
     ensures { result ≡ begun }
 {
-    let reader = reader::begin();
     Intake {
-        reader,
+        reader: reader::begin(),
         from: 0,
         end: 0,
         taken: 0,
-        refusal: 0,
+        refusal: None,
         ended: false,
         written: 0,
     }
@@ -71,10 +73,7 @@ pub fn read_names(rt: &HostRuntime, names: &mut [u8]) -> usize
     ensures names_given { NamesGiven names.new result }
     ensures prefix_len { IsPrefixLen result names.new }
 {
-    let file = system::open(rt, b"names.txt");
-    let n = system::read_full(&file, names);
-    system::close(file);
-    n
+    system::read_file(rt, b"names.txt", names)
 }
 
 // One read, where fewer bytes were read than are asked for.
@@ -82,26 +81,24 @@ fn ask(file: &File, taken: u64, input: &mut [u8]) -> usize
     ensures { Asked file.now taken input.old input.new result }
 {
     if LONGEST <= taken {
-        return 0;
+        0
+    } else {
+        system::read_at(file, input, 0)
     }
-    system::read_at(file, input, 0)
 }
 
 // Reads once, where all that has come is read.
 fn read_text(file: &File, intake: Intake, input: &mut [u8]) -> Intake
     ensures { TextCame file.now intake input.old result input.new }
 {
-    let reader = intake.reader;
-    let taken = intake.taken;
-    let more = ask(file, taken, input);
+    let more = ask(file, intake.taken, input);
     Intake {
-        reader,
         from: 0,
         end: more,
-        taken,
-        refusal: 0,
+        refusal: None,
         ended: more == 0,
         written: 0,
+        ..intake
     }
 }
 
@@ -119,19 +116,16 @@ fn feed_text(
     ensures { FedText names.now index.now intake (unread_text intake input.now) room.old
         events.old result room.new events.new }
 {
-    let from = intake.from;
-    let end = intake.end;
-    let reader = intake.reader;
-    let fed = reader::feed(reader, &input[from..end], names, index, room, events);
-    let next = fed.reader;
+    let text = &input[intake.from..intake.end];
+    let fed = reader::feed(intake.reader, text, names, index, room, events);
     Intake {
-        reader: next,
-        from: from + fed.taken,
-        end,
+        reader: fed.reader,
+        from: intake.from + fed.taken,
         taken: intake.taken + fed.taken as u64,
         refusal: fed.refusal,
         ended: false,
         written: fed.written,
+        ..intake
     }
 }
 
@@ -151,34 +145,27 @@ pub fn advance(
         input.new room.new events.new }
 {
     if intake.from < intake.end {
-        return feed_text(intake, &*input, names, index, room, events);
+        feed_text(intake, &*input, names, index, room, events)
+    } else {
+        read_text(file, intake, input)
     }
-    read_text(file, intake, input)
 }
 
-// The refusal of a text that was read to its end or to a refused byte, or 0: "the text ends, and it is not a whole document".
-fn ending(reader: Reader, refusal: u8) -> u8
-    ensures { result ≡ end_of reader refusal }
+// The refusal of a text that was read to its end or to a refused byte, if it is refused: "the text ends, and it is not a whole document".
+fn ending(reader: Reader, refusal: Option<TextRefusal>) -> Option<TextRefusal>
+    ensures { text_of result ≡ end_of reader (text_of refusal) }
 {
-    if refusal != 0 {
-        return refusal;
-    }
-    let finished = reader::finish(reader);
-    finished.refusal
+    refusal.or(reader::finish(reader).refusal)
 }
 
-// The verdict on it: a refused byte is the one after those that were read, and so is the end.
-pub fn judge(intake: Intake) -> Verdict
+// The verdict on it, if it is refused: a refused byte is the one after those that were read, and so is the end.
+pub fn judge(intake: Intake) -> Option<Verdict>
     requires { intake.taken ≤ longest + 65536 }
-    ensures { result ≡ verdict_for intake }
+    ensures { judged result ≡ verdict_for intake }
 {
-    let reader = intake.reader;
-    let refusal = ending(reader, intake.refusal);
-    if refusal == 0 {
-        return Verdict { refusal: 0, at: 0 };
-    }
-    Verdict {
+    let refusal = ending(intake.reader, intake.refusal)?;
+    Some(Verdict {
         refusal,
         at: intake.taken + 1,
-    }
+    })
 }

@@ -1,28 +1,32 @@
 // Whether what a caller lends is long enough: refusals 15 and 1, by the lengths alone.
 #![tactic(auto)]
 
-ghost use Rattle.std.specs.Prelude.{◌≡◌};
+ghost use Rattle.std.specs.Prelude.{◌≡◌, OnOk};
+ghost use Rattle.limits.specs.Number.{fault_in};
 ghost use Rattle.lent.specs.Lent.{refuse_room, refuse_lent, RoomFits, LentFits};
 
-// The refusal for the lent room, or 0.
-pub fn refuse_room(elements: usize, nodes: usize) -> u8
-    ensures { (result ≡ refuse_room elements nodes) × (result ≡ 0 → RoomFits elements nodes) }
+use limits::Refusal;
+
+// Whether the lent room is enough, or its refusal.
+#[tactic(auto, using(crate::proofs::Limits::limits), unfolding(crate::specs::Lent::refuse_room, choice::specs::When::when, meaning::specs::Answer::too_small))]
+pub fn check_room(elements: usize, nodes: usize) -> Result<(), Refusal>
+    ensures fault { fault_in result ≡ refuse_room elements nodes }
+    ensures fits { OnOk result (RoomFits elements nodes) }
 {
-    if elements < limits::ELEMENTS_ROOM {
-        return limits::SHORT_ROOM;
+    if elements < limits::ELEMENTS_ROOM || nodes < limits::NODES_ROOM {
+        return Err(Refusal::ShortRoom);
     }
-    if nodes < limits::NODES_ROOM {
-        return limits::SHORT_ROOM;
-    }
-    0
+    Ok(())
 }
 
-// The refusal for all that an event is lent, or 0: "15 comes directly after 1 and before all others".
-pub fn refuse_lent(out: usize, elements: usize, nodes: usize) -> u8
-    ensures { (result ≡ refuse_lent out elements nodes) × (result ≡ 0 → LentFits out elements nodes) }
+// The same for all that an event is lent: "15 comes directly after 1 and before all others".
+#[tactic(auto, using(crate::proofs::Limits::limits), unfolding(crate::specs::Lent::refuse_lent, choice::specs::When::when))]
+pub fn check_lent(out: usize, elements: usize, nodes: usize) -> Result<(), Refusal>
+    ensures fault { fault_in result ≡ refuse_lent out elements nodes }
+    ensures fits { OnOk result (LentFits out elements nodes) }
 {
     if out < limits::OUTPUT {
-        return limits::SHORT_OUTPUT;
+        return Err(Refusal::ShortOutput);
     }
-    refuse_room(elements, nodes)
+    check_room(elements, nodes)
 }

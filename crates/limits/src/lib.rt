@@ -1,6 +1,118 @@
-// The limits of a session, the refusal numbers and the reasons, each in this one place of the code; crate meaning, Limits and Refusals, has them for the
-// definitions.
+// The limits of a session, its refusals and the reasons, each in this one place of the code; crate meaning, Limits and Refusals, has them for the
+// definitions. Those of the reader of XML text stand in crate xml, Refused.
 #![tactic(auto)]
+
+ghost use Rattle.std.specs.Prelude.{◌≡◌};
+ghost use Rattle.limits.specs.Number.{number, reason_number, text_number};
+
+// Why a call of a session is refused, by its number.
+#[derive(Clone, Copy, PartialEq, Eq)]
+pub enum Refusal {
+    // "output buffer under 4,100 bytes"
+    ShortOutput = 1,
+    // "not 8 bytes, or a bad record"
+    BadRecord = 2,
+    // "the document element has been closed"
+    AfterEnd = 3,
+    // "a close with nothing open, or with another name than the innermost open element"
+    WrongClose = 4,
+    // "an open at depth 256"
+    TooDeep = 5,
+    // "an open when 16,777,215 nodes have been opened"
+    TooManyNodes = 6,
+    // "an open after which more than 1,024 nodes would be held"
+    TooManyHeld = 7,
+    // "no document element yet, or it is still open"
+    Unfinished = 8,
+    // "query of 0 bytes, of a length not a multiple of 8, or over 256 bytes"
+    BadLength = 9,
+    // "a step breaks a rule; comes with the first such step's number, and a reason"
+    BadStep = 10,
+    // "the session is stopped"
+    Stopped = 11,
+    // "lent room under 16,384 bytes for the open elements or under 32,768 bytes for the waiting nodes"
+    ShortRoom = 15,
+}
+
+impl Refusal {
+    pub fn number(self) -> u8
+        ensures { result ≡ number self }
+    {
+        self as u8
+    }
+}
+
+// Why a step of a query is at fault, by its number.
+#[derive(Clone, Copy, PartialEq, Eq)]
+pub enum Reason {
+    Axis = 1,
+    Role = 2,
+    // what it hangs on
+    Hang = 3,
+    // "a byte that must be 0"
+    Zero = 4,
+}
+
+impl Reason {
+    pub fn number(self) -> u8
+        ensures { result ≡ reason_number self }
+    {
+        self as u8
+    }
+}
+
+// Why the reader refuses a byte of XML text, its end or a call, or a line of the list of names, by its number, in the words of docs/XML.md.
+#[derive(Clone, Copy, PartialEq, Eq)]
+pub enum TextRefusal {
+    // "no text that is read goes on with this byte, and none of 31 to 43 applies"
+    Misplaced = 30,
+    // "a byte does not go on as the UTF-8 form of a Char"
+    NotChar = 31,
+    // a document type
+    Doctype = 32,
+    // a processing instruction
+    Instruction = 33,
+    // a CDATA section
+    Cdata = 34,
+    // a character reference
+    CharReference = 35,
+    // "a byte with which none of the five entities goes on"
+    OtherEntity = 36,
+    // "a tag's or an attribute's name goes on after 64 bytes"
+    LongName = 37,
+    // "a 17th attribute begins on a tag"
+    ManyAttributes = 38,
+    // an attribute's name for the second time
+    Twice = 39,
+    // "an end tag spells another name than its start tag"
+    OtherEnd = 40,
+    // "an element begins inside 256 others"
+    Nested = 41,
+    // another encoding
+    OtherEncoding = 42,
+    // a name beyond ASCII
+    ForeignName = 43,
+    // "the text ends, and it is not a whole document"
+    Unended = 44,
+    // "less room is lent than a call needs"
+    Scant = 45,
+    // the reader is stopped
+    ReaderStopped = 46,
+    // "the list has a 65,534th line"
+    ManyNames = 47,
+    // "a line of the list is a name of more than 64 bytes"
+    LongListed = 48,
+    // "a line of the list is no name"
+    NotName = 49,
+}
+
+impl TextRefusal {
+    pub fn number(self) -> u8
+        ensures { result ≡ text_number self }
+    {
+        self as u8
+    }
+}
 
 // "A session holds at most 256 open elements and at most 1,024 held nodes"
 pub const DEPTH: usize = 256;

@@ -1,7 +1,7 @@
 // What the program writes, as bytes: node numbers in decimal, each on a line of its own, and the last line.
 #![tactic(auto)]
 
-ghost use Rattle.std.specs.Prelude.{◌≡◌, ◌+◌, ◌*◌, ◌≤◌, ◌<◌, length};
+ghost use Rattle.std.specs.Prelude.{◌≡◌, ◌+◌, ◌*◌, ◌≤◌, ◌<◌, ◌++◌, length};
 ghost use Rattle.io.specs.Counts.{IsPrefixLen};
 ghost use Rattle.lines.specs.Decimal.{decimal};
 ghost use Rattle.lines.specs.Put.{Put};
@@ -11,13 +11,7 @@ ghost use Rattle.lines.specs.Text.{line, lines_of, node_at, nodes_in, end_line, 
 fn width(n: u64) -> usize
     ensures { result ≡ length (decimal n) }
 {
-    let mut digits: usize = 1;
-    let mut rest = n;
-    while 9 < rest {
-        rest = rest / 10;
-        digits += 1;
-    }
-    digits
+    n.checked_ilog10().map_or(1, |tens| tens as usize + 1)
 }
 
 // The number in decimal from `at` on. Answers where it ends.
@@ -26,14 +20,12 @@ fn put_number(n: u64, at: usize, text: &mut [u8]) -> usize
     ensures { Put text.old at (decimal n) text.new result }
 {
     let end = at + width(n);
-    let mut i = end;
     let mut rest = n;
-    while 9 < rest {
-        i -= 1;
-        text[i] = 48 + (rest % 10) as u8;
-        rest = rest / 10;
+    for i in (at + 1..end).rev() {
+        text[i] = b'0' + (rest % 10) as u8;
+        rest /= 10;
     }
-    text[at] = 48 + rest as u8;
+    text[at] = b'0' + rest as u8;
     end
 }
 
@@ -51,20 +43,9 @@ fn put_word(word: &[u8], at: usize, text: &mut [u8]) -> usize
     requires { at + length word.now ≤ length text.old }
     ensures { Put text.old at word.now text.new result }
 {
-    let mut end = at;
-    let mut i: usize = 0;
-    while i < word.len() {
-        text[end] = word[i];
-        end += 1;
-        i += 1;
-    }
+    let end = at + word.len();
+    text[at..end].copy_from_slice(word);
     end
-}
-
-fn wide(x: u8) -> u64
-    ensures { (result ≡ x) × (result < 256) }
-{
-    x as u64
 }
 
 // "A node number, high byte first."
@@ -73,10 +54,13 @@ pub fn node_at(records: &[u8], i: usize) -> u64
     ensures { (result ≡ node_at records.now i) × (result < 4294967296) }
 {
     let at = 4 * i;
-    wide(records[at]) * 16777216
-        + wide(records[at + 1]) * 65536
-        + wide(records[at + 2]) * 256
-        + wide(records[at + 3])
+    let bytes = [
+        records[at],
+        records[at + 1],
+        records[at + 2],
+        records[at + 3],
+    ];
+    u64::from(u32::from_be_bytes(bytes))
 }
 
 // The nodes of the first `count` list records, each on a line of its own.
@@ -86,13 +70,29 @@ pub fn put_lines(records: &[u8], count: usize, text: &mut [u8]) -> usize
     ensures prefix_len { IsPrefixLen result text.new }
 {
     let mut end: usize = 0;
-    let mut i: usize = 0;
-    while i < count {
-        let node = node_at(records, i);
-        end = put_line(node, end, text);
-        i += 1;
+    for i in 0..count {
+        end = put_line(node_at(records, i), end, text);
     }
     end
+}
+
+// A word, and the number behind it.
+fn put_named(word: &[u8], n: u64, at: usize, text: &mut [u8]) -> usize
+    requires { at + length word.now + length (decimal n) ≤ length text.old }
+    ensures { Put text.old at (word.now ++ decimal n) text.new result }
+{
+    let number = put_word(word, at, text);
+    put_number(n, number, text)
+}
+
+// The same with a line feed.
+fn put_last(word: &[u8], n: u64, at: usize, text: &mut [u8]) -> usize
+    requires { at + length word.now + 21 ≤ length text.old }
+    ensures put { Put text.old at (word.now ++ line n) text.new result }
+    ensures prefix_len { IsPrefixLen result text.new }
+{
+    let number = put_word(word, at, text);
+    put_line(n, number, text)
 }
 
 // "`end N` with the number handed out"
@@ -101,19 +101,17 @@ pub fn put_end(n: u64, text: &mut [u8]) -> usize
     ensures put { Put text.old 0 (end_line n) text.new result }
     ensures prefix_len { IsPrefixLen result text.new }
 {
-    let at = put_word(b"end ", 0, text);
-    put_line(n, at, text)
+    put_last(b"end ", n, 0, text)
 }
 
 // `refused R at E`, with nothing behind it.
 fn put_refusal(r: u8, e: u64, text: &mut [u8]) -> usize
     requires { 64 ≤ length text.old }
-    ensures { Put text.old 0 (refusal_text r e) text.new result }
+    ensures put { Put text.old 0 (refusal_text r e) text.new result }
+    ensures short { result ≤ 35 }
 {
-    let number = put_word(b"refused ", 0, text);
-    let word = put_number(wide(r), number, text);
-    let at = put_word(b" at ", word, text);
-    put_number(e, at, text)
+    let at = put_named(b"refused ", u64::from(r), 0, text);
+    put_named(b" at ", e, at, text)
 }
 
 // "`refused R at E`"
@@ -133,8 +131,7 @@ pub fn put_refused_for(r: u8, e: u64, reason: u8, text: &mut [u8]) -> usize
     ensures prefix_len { IsPrefixLen result text.new }
 {
     let end = put_refusal(r, e, text);
-    let number = put_word(b" reason ", end, text);
-    put_line(wide(reason), number, text)
+    put_last(b" reason ", u64::from(reason), end, text)
 }
 
 // "Refusal 9 is written `refused 9`."
@@ -143,6 +140,5 @@ pub fn put_refused(r: u8, text: &mut [u8]) -> usize
     ensures put { Put text.old 0 (refused_line r) text.new result }
     ensures prefix_len { IsPrefixLen result text.new }
 {
-    let number = put_word(b"refused ", 0, text);
-    put_line(wide(r), number, text)
+    put_last(b"refused ", u64::from(r), 0, text)
 }

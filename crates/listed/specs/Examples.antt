@@ -9,9 +9,8 @@ use Rattle.choice.specs.When.{when}
 use Rattle.xml.specs.Class.{in_class}
 use Rattle.xml.specs.Bounds.{name_limit, list_limit}
 use Rattle.xml.specs.Refused.{long_listed, not_name}
-use Rattle.listed.specs.declared.Listing.{Listing}
 use Rattle.listed.specs.Lines.{lines_of, onto}
-use Rattle.listed.specs.Listed.{all_in, is_name, fault_of, fine, refused, answer_from, list_answer}
+use Rattle.listed.specs.Listed.{Listing, all_in, is_name, fault_of, fine, refused, answer_from, list_answer}
 
 pub record ListRow : Type 0 where
   pub bytes : List ℕ

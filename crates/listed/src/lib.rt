@@ -2,134 +2,90 @@
 #![tactic(auto)]
 
 ghost use Rattle.std.specs.Prelude.{◌≡◌, ◌+◌, ◌≤◌, length, drop};
-ghost use Rattle.xml.specs.Class.{in_class, in_range, to};
+ghost use Rattle.xml.specs.Class.{in_class};
 ghost use Rattle.xml.specs.Chars.{name_start, name_char};
 ghost use Rattle.listed.specs.Lines.{line_length};
+ghost use Rattle.limits.specs.Number.{text_in};
 ghost use Rattle.listed.specs.Listed.{is_name, fault_of, list_answer};
+ghost use Rattle.listed.specs.Answer.{listing};
 
-// The answer to a list: 0 and 0 where it is fine, else the refusal and the number of its first line at fault.
-#[derive(Drop)]
-pub struct Listing {
-    pub refusal: u8,
+use limits::TextRefusal;
+
+// Why a list is refused, and the number of its first line at fault, or 0 where that is no line's.
+#[derive(Clone, Copy, PartialEq, Eq)]
+pub struct ListFault {
+    pub refusal: TextRefusal,
     pub line: u32,
 }
 
 // Checks a list.
-pub fn check(names: &[u8]) -> Listing
-    ensures { result ≡ list_answer names.now }
+#[tactic(auto, using(xml::proofs::Bounds::Laws::list_limit_is, crate::specs::Lines::Laws::line_ends))]
+pub fn check(names: &[u8]) -> Result<(), ListFault>
+    ensures { listing result ≡ list_answer names.now }
 {
+    // Kept: a turn goes on by a whole line and not by one byte; `split` would have a piece after the last line feed, to be told from a last line without one.
     let mut place: usize = 1;
     let mut at: usize = 0;
     while at < names.len() {
         let end = line_end(names, at);
-        let fault = fault_of(place, &names[at..end]);
-        if fault != 0 {
-            return Listing {
-                refusal: fault,
-                line: place as u32,
-            };
+        if let Err(refusal) = check_line(place, &names[at..end]) {
+            let line = place as u32;
+            return Err(ListFault { refusal, line });
         }
         place += 1;
         at = end + 1;
     }
-    Listing {
-        refusal: 0,
-        line: 0,
-    }
+    Ok(())
 }
 
 // Where the line that begins at `from` ends: its line feed, or the end of the list.
-#[tactic(auto, using(crate::specs::Lines::Laws::line_stops))]
 pub fn line_end(names: &[u8], from: usize) -> usize
     requires { from ≤ length names.now }
     ensures { result ≡ from + line_length (drop from names.now) }
 {
-    let mut end = from;
-    while end < names.len() {
-        if names[end] == b'\n' {
-            return end;
-        }
-        end += 1;
-    }
-    end
+    let rest = &names[from..];
+    from + rest.iter().position(|b| *b == b'\n').unwrap_or(rest.len())
 }
 
-// The refusal that the line with this number gets, or 0.
-fn fault_of(place: usize, line: &[u8]) -> u8
-    ensures { result ≡ fault_of place line.now }
+// Checks the line with this number.
+#[tactic(auto, using(choice::specs::Tests::tests), unfolding(crate::specs::Listed::fault_of, xml::specs::Bounds::list_limit, xml::specs::Bounds::name_limit))]
+fn check_line(place: usize, line: &[u8]) -> Result<(), TextRefusal>
+    ensures { text_in result ≡ fault_of place line.now }
 {
     if limits::NAMES < place {
-        return limits::MANY_NAMES;
+        return Err(TextRefusal::ManyNames);
     }
     if !is_name(line) {
-        return limits::NOT_NAME;
+        return Err(TextRefusal::NotName);
     }
     if limits::NAME_BYTES < line.len() {
-        return limits::LONG_LISTED;
+        return Err(TextRefusal::LongListed);
     }
-    0
+    Ok(())
 }
 
 // "Name ::= NameStartChar (NameChar)*"
 fn is_name(line: &[u8]) -> bool
     ensures { result ≡ is_name line.now }
 {
-    if line.len() == 0 {
-        return false;
+    match line {
+        [first, rest @ ..] => starts(*first) && rest.iter().all(|b| goes_on(*b)),
+        [] => false,
     }
-    if !starts(line[0]) {
-        return false;
-    }
-    let mut i: usize = 1;
-    while i < line.len() {
-        if !goes_on(line[i]) {
-            return false;
-        }
-        i += 1;
-    }
-    true
 }
 
 // Whether a name may begin with this byte.
+#[tactic(auto, unfolding(xml::specs::Class::in_class))]
 fn starts(b: u8) -> bool
     ensures { result ≡ in_class name_start b }
 {
-    if within(b, b':', b':') {
-        return true;
-    }
-    if within(b, b'A', b'Z') {
-        return true;
-    }
-    if within(b, b'_', b'_') {
-        return true;
-    }
-    within(b, b'a', b'z')
+    matches!(b, b':' | b'A'..=b'Z' | b'_' | b'a'..=b'z')
 }
 
 // Whether a name may go on with this byte.
+#[tactic(auto, unfolding(xml::specs::Class::in_class))]
 fn goes_on(b: u8) -> bool
     ensures { result ≡ in_class name_char b }
 {
-    if within(b, b'-', b'.') {
-        return true;
-    }
-    if within(b, b'0', b':') {
-        return true;
-    }
-    if within(b, b'A', b'Z') {
-        return true;
-    }
-    if within(b, b'_', b'_') {
-        return true;
-    }
-    within(b, b'a', b'z')
-}
-
-fn within(b: u8, low: u8, high: u8) -> bool
-    ensures { result ≡ in_range (to low high) b }
-{
-    if low <= b {
-        return b <= high;
-    }
-    false
+    starts(b) || matches!(b, b'-' | b'.' | b'0'..=b'9')
 }

@@ -4,8 +4,10 @@
 ghost use Rattle.std.specs.Prelude.{◌≡◌};
 ghost use Rattle.modes.specs.Moves.{go_to, stay_in, refuse_with, spell_on, go_aside, give_out, count_to};
 
+use limits::TextRefusal;
+
 // What was read last in the prolog, but for markup. Beside each, what may come next.
-#[derive(Clone, Copy)]
+#[derive(Clone, Copy, PartialEq, Eq)]
 pub enum Prolog {
     // At the start: a byte order mark, a blank or '<'.
     Start,
@@ -33,7 +35,7 @@ pub enum Prolog {
 }
 
 // What was read last.
-#[derive(Clone, Copy)]
+#[derive(Clone, Copy, PartialEq, Eq)]
 pub enum Mode {
     Prolog(Prolog),
     // '<' at the very start: '?' of the XML declaration, or any markup.
@@ -76,7 +78,7 @@ pub enum Mode {
 }
 
 // What a byte gave: events of the element that it opened or closed, or of a comment.
-#[derive(Clone, Copy)]
+#[derive(Clone, Copy, PartialEq, Eq)]
 pub enum Gives {
     Nothing,
     Open,
@@ -97,126 +99,103 @@ pub struct Reader {
     pub row: u8,
     pub count: u8,
     pub gives: Gives,
-    // 0, or the refusal by which it was stopped.
-    pub refusal: u8,
+    // The refusal by which it was stopped.
+    pub refusal: Option<TextRefusal>,
     pub place: u16,
 }
 
-// On in another mode.
-pub fn go(r: Reader, mode: Mode) -> Reader
-    ensures { result ≡ go_to r mode }
-{
-    let back = r.back;
-    Reader {
-        mode,
-        back,
-        n: 0,
-        row: r.row,
-        count: r.count,
-        gives: Gives::Nothing,
-        refusal: 0,
-        place: r.place,
+impl Reader {
+    // On in another mode.
+    pub fn go(self, mode: Mode) -> Reader
+        ensures { result ≡ go_to self mode }
+    {
+        Reader {
+            mode,
+            n: 0,
+            gives: Gives::Nothing,
+            refusal: None,
+            ..self
+        }
     }
-}
 
-// On in another mode or the same, with nothing else changed.
-pub fn stay(r: Reader, mode: Mode) -> Reader
-    ensures { result ≡ stay_in r mode }
-{
-    let back = r.back;
-    Reader {
-        mode,
-        back,
-        n: r.n,
-        row: r.row,
-        count: r.count,
-        gives: Gives::Nothing,
-        refusal: 0,
-        place: r.place,
+    // On in another mode or the same, with nothing else changed.
+    pub fn stay(self, mode: Mode) -> Reader
+        ensures { result ≡ stay_in self mode }
+    {
+        Reader {
+            mode,
+            gives: Gives::Nothing,
+            refusal: None,
+            ..self
+        }
     }
-}
 
-// Stopped by a refusal.
-pub fn refuse(r: Reader, refusal: u8) -> Reader
-    ensures { result ≡ refuse_with r refusal }
-{
-    let mode = r.mode;
-    let back = r.back;
-    Reader {
-        mode,
-        back,
-        n: r.n,
-        row: r.row,
-        count: r.count,
-        gives: Gives::Nothing,
-        refusal,
-        place: r.place,
+    // Stopped by a refusal.
+    pub fn refuse(self, refusal: TextRefusal) -> Reader
+        ensures { result ≡ refuse_with self refusal }
+    {
+        Reader {
+            gives: Gives::Nothing,
+            refusal: Some(refusal),
+            ..self
+        }
     }
-}
 
-// On in a spelling: n bytes of the row.
-pub fn spell(r: Reader, mode: Mode, row: u8, n: u8) -> Reader
-    ensures { result ≡ spell_on r mode row n }
-{
-    let back = r.back;
-    Reader {
-        mode,
-        back,
-        n,
-        row,
-        count: r.count,
-        gives: Gives::Nothing,
-        refusal: 0,
-        place: r.place,
+    // On in a spelling: n bytes of the row.
+    pub fn spell(self, mode: Mode, row: u8, n: u8) -> Reader
+        ensures { result ≡ spell_on self mode row n }
+    {
+        Reader {
+            mode,
+            n,
+            row,
+            gives: Gives::Nothing,
+            refusal: None,
+            ..self
+        }
     }
-}
 
-// On in another mode, to come back.
-pub fn aside(r: Reader, mode: Mode, n: u8, back: Mode) -> Reader
-    ensures { result ≡ go_aside r mode n back }
-{
-    Reader {
-        mode,
-        back,
-        n,
-        row: 0,
-        count: r.count,
-        gives: Gives::Nothing,
-        refusal: 0,
-        place: r.place,
+    // On in another mode, to come back.
+    pub fn aside(self, mode: Mode, n: u8, back: Mode) -> Reader
+        ensures { result ≡ go_aside self mode n back }
+    {
+        Reader {
+            mode,
+            back,
+            n,
+            row: 0,
+            gives: Gives::Nothing,
+            refusal: None,
+            ..self
+        }
     }
-}
 
-// Events are given.
-pub fn give(r: Reader, gives: Gives, mode: Mode, place: u16) -> Reader
-    ensures { result ≡ give_out r gives mode place }
-{
-    let back = r.back;
-    Reader {
-        mode,
-        back,
-        n: 0,
-        row: r.row,
-        count: 0,
-        gives,
-        refusal: 0,
-        place,
+    // Events are given.
+    pub fn give(self, gives: Gives, mode: Mode, place: u16) -> Reader
+        ensures { result ≡ give_out self gives mode place }
+    {
+        Reader {
+            mode,
+            n: 0,
+            count: 0,
+            gives,
+            refusal: None,
+            place,
+            ..self
+        }
     }
-}
 
-// One more was counted.
-pub fn counted(r: Reader, mode: Mode, count: u8) -> Reader
-    ensures { result ≡ count_to r mode count }
-{
-    let back = r.back;
-    Reader {
-        mode,
-        back,
-        n: 0,
-        row: r.row,
-        count,
-        gives: Gives::Nothing,
-        refusal: 0,
-        place: r.place,
+    // One more was counted.
+    pub fn counted(self, mode: Mode, count: u8) -> Reader
+        ensures { result ≡ count_to self mode count }
+    {
+        Reader {
+            mode,
+            n: 0,
+            count,
+            gives: Gives::Nothing,
+            refusal: None,
+            ..self
+        }
     }
 }

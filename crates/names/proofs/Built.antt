@@ -15,9 +15,8 @@ use Rattle.std.proofs.lemmas.Bool.{eqb-false}
 use Rattle.choice.specs.When.{when_true, when_false}
 use Rattle.xml.specs.Refused.{scant, many_names, long_listed, not_name}
 use Rattle.listed.specs.Lines.{lines_of}
-use Rattle.listed.specs.Listed.{refused, list_answer}
+use Rattle.listed.specs.Listed.{Listing, refused, list_answer}
 use Rattle.listed.specs.Words.Laws.{no_refusal, one_of_these}
-use Rattle.listed.specs.declared.Listing.{Listing}
 use Rattle.spelling.specs.Bucket.{buckets}
 use Rattle.chains.specs.Index.{index_words, built, Ready}
 use Rattle.chains.proofs.Index.Parts.{partly_length, partly_past}

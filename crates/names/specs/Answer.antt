@@ -8,8 +8,7 @@
 use Rattle.std.specs.Prelude.{ℕ, ◌≡◌, List, eqb, ltb, length}
 use Rattle.choice.specs.When.{when}
 use Rattle.xml.specs.Refused.{scant}
-use Rattle.listed.specs.Listed.{refused, list_answer}
-use Rattle.listed.specs.declared.Listing.{Listing}
+use Rattle.listed.specs.Listed.{Listing, refused, list_answer}
 use Rattle.chains.specs.Index.{index_words, built}
 
 -- "less room is lent than a call needs"

@@ -1,6 +1,7 @@
 -- The waiting nodes as they stand in lent bytes: a record of 8 numbers for each.
 --
 --   shape               a node's record: its waiting node (crate engine, Quick) is its first numbers, one for each field
+--   place g             where a field stands in a record
 --   Queue               all records: their waiting nodes, used or not, and their spare numbers;  queue_in bs: those in bytes
 --   node_at N i          the waiting node of record i
 --   wrote_in             what `write` does, to record i alone
@@ -11,6 +12,8 @@ pub mod Laws
 use Rattle.std.specs.Prelude.{ℕ, List, [], ◌∷◌, get_or}
 use Rattle.meaning.specs.Limits.{held_limit}
 use Rattle.engine.specs.Quick.{Waiting}
+use Rattle.node.specs.declared.Field.{Field}
+use Rattle.node.specs.declared.Field.TheVariants.{Node, Level, Need}
 use Rattle.words.specs.Records.{Shape, Records, set_at, blank, records_in, at}
 
 abbrev pub waiting_of : (ℕ → ℕ) → Waiting
@@ -18,6 +21,11 @@ waiting_of r = record { node = r 0; level = r 1; need = r 2 }
 
 abbrev pub field_of : ℕ → Waiting → ℕ
 field_of g w = get_or (w.node ∷ w.level ∷ w.need ∷ []) g 0
+
+abbrev pub place : Field → ℕ
+place Node = 0
+place Level = 1
+place Need = 2
 
 abbrev pub shape : Shape Waiting
 shape = record { count = held_limit; wide = 8; fields = 3; make = waiting_of; field = field_of }

@@ -2,6 +2,7 @@
 --
 --   Numbers             how many elements are open, how many nodes wait, were opened and were handed out, whether the document element has been
 --                       closed (not 0), and whether the session is stopped (not 0)
+--   place g             where a field stands
 --   shape               their record;  numbers_room: how many bytes it takes
 --   record_in bs, numbers_in bs         the record in bytes, and the numbers in it
 --   numbers_of           the numbers one by one
@@ -11,6 +12,8 @@
 -- Assumes nothing.
 pub mod Laws
 use Rattle.std.specs.Prelude.{ℕ, ◌≤◌, List, [], ◌∷◌, get_or}
+use Rattle.numbers.specs.declared.Field.{Field}
+use Rattle.numbers.specs.declared.Field.TheVariants.{Depth, Held, Opened, Handed, Ended, Stopped}
 use Rattle.words.specs.Records.{Shape, Records, room, records_in, at}
 
 pub record Numbers : Type 0 where
@@ -26,6 +29,14 @@ make r = record { depth = r 0; held = r 1; opened = r 2; handed = r 3; ended = r
 
 abbrev pub field_of : ℕ → Numbers → ℕ
 field_of g n = get_or (n.depth ∷ n.held ∷ n.opened ∷ n.handed ∷ n.ended ∷ n.stopped ∷ []) g 0
+
+abbrev pub place : Field → ℕ
+place Depth = 0
+place Held = 1
+place Opened = 2
+place Handed = 3
+place Ended = 4
+place Stopped = 5
 
 abbrev pub shape : Shape Numbers
 shape = record { count = 1; wide = 6; fields = 6; make = make; field = field_of }

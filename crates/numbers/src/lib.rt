@@ -1,60 +1,70 @@
 // A session's numbers in lent bytes: 6 numbers.
 #![tactic(auto)]
 
-ghost use Rattle.std.specs.Prelude.{◌≡◌, ◌<◌, length};
+ghost use Rattle.std.specs.Prelude.{◌≡◌, ◌<◌};
 ghost use Rattle.words.specs.Records.{put_at};
-ghost use Rattle.numbers.specs.Numbers.{numbers_room, shape, field_of, record_in, numbers_in, numbers_of, with_stop};
+ghost use Rattle.numbers.specs.Numbers.{shape, place, field_of, record_in, numbers_in, numbers_of, with_stop};
 
 // How many bytes they take.
 pub const ROOM: usize = 24;
 
-// How many elements are open.
-pub const DEPTH: usize = 0;
+pub type Numbers = [u8; ROOM];
 
-// How many nodes wait.
-pub const HELD: usize = 1;
-
-// How many nodes were opened, and how many handed out.
-pub const OPENED: usize = 2;
-
-pub const HANDED: usize = 3;
-
-// "the document element has been closed": not 0.
-pub const ENDED: usize = 4;
-
-// "the session is stopped": not 0.
-pub const STOPPED: usize = 5;
-
-pub fn get(numbers: &[u8], field: usize) -> u32
-    requires { (length numbers.now ≡ numbers_room) × (field < 6) }
-    ensures { result ≡ field_of field (numbers_in numbers.now) }
-{
-    words::get(numbers, field)
+// The fields, by their places.
+#[derive(Clone, Copy)]
+pub enum Field {
+    // How many elements are open.
+    Depth = 0,
+    // How many nodes wait.
+    Held = 1,
+    // How many nodes were opened, and how many handed out.
+    Opened = 2,
+    Handed = 3,
+    // "the document element has been closed": not 0.
+    Ended = 4,
+    // "the session is stopped": not 0.
+    Stopped = 5,
 }
 
-fn put(numbers: &mut [u8], field: usize, v: u32)
-    requires { (length numbers.old ≡ numbers_room) × (field < 6) }
-    ensures { record_in numbers.new ≡ put_at shape 0 field v (record_in numbers.old) }
+impl Field {
+    fn place(self) -> usize
+        ensures { (result ≡ place self) × (result < 6) }
+    {
+        self as usize
+    }
+}
+
+// Kept: `get` and `put` as those of crate element: one function for the three would need the width and the contract of each, and they are a line each.
+#[tactic(auto, using(crate::specs::Numbers::Laws::get_is, crate::specs::Numbers::Laws::room_is))]
+pub fn get(numbers: &Numbers, field: Field) -> u32
+    ensures { result ≡ field_of (place field) (numbers_in numbers.now) }
 {
-    words::put(numbers, field, v);
+    words::get(numbers, field.place())
+}
+
+#[tactic(auto, using(crate::specs::Numbers::Laws::put_is, crate::specs::Numbers::Laws::room_is))]
+fn put(numbers: &mut Numbers, field: Field, v: u32)
+    ensures { record_in numbers.new ≡ put_at shape 0 (place field) v (record_in numbers.old) }
+{
+    words::put(numbers, field.place(), v);
 }
 
 // What events count. Whether the session is stopped stays as it was.
-pub fn write(numbers: &mut [u8], depth: u32, held: u32, opened: u32, handed: u32, ended: u32)
-    requires { length numbers.old ≡ numbers_room }
+#[tactic(auto, using(crate::specs::Numbers::Laws::write_parts))]
+pub fn write(numbers: &mut Numbers, depth: u32, held: u32, opened: u32, handed: u32, ended: u32)
     ensures { numbers_in numbers.new ≡ numbers_of depth held opened handed ended (numbers_in numbers.old).stopped }
 {
-    put(numbers, DEPTH, depth);
-    put(numbers, HELD, held);
-    put(numbers, OPENED, opened);
-    put(numbers, HANDED, handed);
-    put(numbers, ENDED, ended);
+    put(numbers, Field::Depth, depth);
+    put(numbers, Field::Held, held);
+    put(numbers, Field::Opened, opened);
+    put(numbers, Field::Handed, handed);
+    put(numbers, Field::Ended, ended);
 }
 
 // Whether the session is stopped. What events count stays as it was.
-pub fn write_stop(numbers: &mut [u8], stopped: u32)
-    requires { length numbers.old ≡ numbers_room }
+#[tactic(auto, using(crate::specs::Numbers::Laws::stop_part))]
+pub fn write_stop(numbers: &mut Numbers, stopped: u32)
     ensures { numbers_in numbers.new ≡ with_stop stopped (numbers_in numbers.old) }
 {
-    put(numbers, STOPPED, stopped);
+    put(numbers, Field::Stopped, stopped);
 }

@@ -5,7 +5,7 @@
 --   offered_alike         with others that are 0 in the same cases the refusal is the same, and if that is 0 so is everything (Offer.Alike, OfferedAlike)
 --
 -- Assumes nothing.
-use Rattle.std.specs.Prelude.{ℕ, ◌≡◌, Bool, true, false, List, eqb, ltb, length}
+use Rattle.std.specs.Prelude.{ℕ, ◌≡◌, Bool, true, false, Option, None, Some, List, eqb, ltb, length}
 use Rattle.std.proofs.Common.{arith, sym, ap₂, ◌∙◌, eqb-true, eq-eqb, ne_eqb}
 use Rattle.std.proofs.Math.Path.{refl, ap}
 use Rattle.std.proofs.Math.Bool.{not}
@@ -16,7 +16,7 @@ use Rattle.meaning.specs.Record.{event_of}
 use Rattle.meaning.specs.Refusals.{short_output, short_room, already_stopped, bad_record}
 use Rattle.meaning.specs.Refusals as refusals
 use Rattle.records.specs.declared.Event.{Event}
-use Rattle.records.specs.declared.Event.TheVariants.{Open, Close, Bad}
+use Rattle.records.specs.declared.Event.TheVariants.{Open, Close}
 use Rattle.records.specs.Read.{shown}
 use Rattle.plan.specs.Plan.{Plan}
 use Rattle.element.specs.Element.{Elements, elements_in}
@@ -32,16 +32,16 @@ use Rattle.offer.specs.Offer.{needed, offered}
 use Rattle.offer.specs.Offer.Alike.{saying, OfferedAlike}
 
 -- "3: the document element has been closed"
-unfoldable after_end : Event → ℕ
-after_end (Open x) = refusals.after_end
-after_end (Close x) = refusals.after_end
-after_end Bad = bad_record
+unfoldable after_end : Option Event → ℕ
+after_end (Some (Open x)) = refusals.after_end
+after_end (Some (Close x)) = refusals.after_end
+after_end None = bad_record
 
-some_after : (e : Event) → eqb (after_end e) 0 ≡ false
+some_after : (e : Option Event) → eqb (after_end e) 0 ≡ false
 unfolding after_end
-some_after (Open x) = ne_eqb refusals.after_end 0 (λ z. omega arith)
-some_after (Close x) = ne_eqb refusals.after_end 0 (λ z. omega arith)
-some_after Bad = ne_eqb bad_record 0 (λ z. omega arith)
+some_after (Some (Open x)) = ne_eqb refusals.after_end 0 (λ z. omega arith)
+some_after (Some (Close x)) = ne_eqb refusals.after_end 0 (λ z. omega arith)
+some_after None = ne_eqb bad_record 0 (λ z. omega arith)
 
 -- a step
 
@@ -57,16 +57,16 @@ module _ (P : Plan) (n : Numbers) (E : Elements) (N : Queue) (out : List ℕ) (o
   some_is : (r : ℕ) → r ≡ refusals.after_end → eqb r 0 ≡ false
   some_is r e = ap (λ (k : ℕ). eqb k 0) e ∙ ne_eqb refusals.after_end 0 (λ z. omega arith)
 
-  step_after : (e : Event) → (step P e n E N out).refusal ≡ after_end e
+  step_after : (e : Option Event) → (step P e n E N out).refusal ≡ after_end e
   unfolding step on_open on_close after_end
-  step_after (Open x) = ap (λ (a : After). a.refusal) (when_false _ _ _ (some_is (refuse_open n) open_after)) ∙ open_after
-  step_after (Close x) = ap (λ (a : After). a.refusal) (when_false _ _ _ (some_is (refuse_close n E x) (close_after x))) ∙ close_after x
-  step_after Bad = refl
+  step_after (Some (Open x)) = ap (λ (a : After). a.refusal) (when_false _ _ _ (some_is (refuse_open n) open_after)) ∙ open_after
+  step_after (Some (Close x)) = ap (λ (a : After). a.refusal) (when_false _ _ _ (some_is (refuse_close n E x) (close_after x))) ∙ close_after x
+  step_after None = refl
 
 -- a step with the stop
 
 module _ (P : Plan) (s : Seat) (bytes out : List ℕ) where
-  abbrev e : Event
+  abbrev e : Option Event
   e = shown (event_of bytes)
 
   at_stopped : eqb s.numbers.stopped 0 ≡ false → (step_at P s bytes out).refusal ≡ already_stopped

@@ -9,13 +9,15 @@
 -- Assumes nothing. NOT here: the stop (crate stop), what a step does (crate step), when room is too small (crate meaning, Answer).
 pub mod Laws
 pub mod Alike
-use Rattle.std.specs.Prelude.{ℕ, ◌≡◌, List, ◌++◌, ltb, length, take, drop}
+use Rattle.std.specs.Prelude.{ℕ, ◌≡◌, Result, List, ◌++◌, ltb, length, take, drop}
 use Rattle.choice.specs.When.{when}
 use Rattle.meaning.specs.Answer.{too_small}
 use Rattle.meaning.specs.Limits.{output_needed, elements_needed, nodes_needed}
 use Rattle.meaning.specs.Refusals.{short_output, short_room}
 use Rattle.plan.specs.Plan.{Plan}
-use Rattle.step.specs.declared.Stepped.{Stepped}
+use Rattle.limits.specs.declared.Refusal.{Refusal}
+use Rattle.limits.specs.Number.{fault_in}
+use Rattle.step.specs.Step.{listed_in}
 use Rattle.feed.specs.Fed.{Came}
 use Rattle.feed.specs.Fed.Across.{across}
 use Rattle.feed.specs.Steps.{Seat, seat, came, step_at}
@@ -37,5 +39,5 @@ offered P s bytes out =
     (when (too_small (length s.elements) (length s.nodes)) (came short_room 0 s out)
     (beside s (step_at P (needed s) bytes out)))
 
-abbrev pub OfferGives : Plan → Seat → List ℕ → List ℕ → Stepped → Seat → List ℕ → Type 0
-OfferGives P s bytes out r s' out' = came r.refusal r.listed s' out' ≡ offered P s bytes out
+abbrev pub OfferGives : Plan → Seat → List ℕ → List ℕ → Result ℕ Refusal → Seat → List ℕ → Type 0
+OfferGives P s bytes out r s' out' = came (fault_in r) (listed_in r) s' out' ≡ offered P s bytes out

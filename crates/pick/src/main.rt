@@ -40,12 +40,11 @@ fn answer_events(
         text,
     );
     system::close(file);
-    if state.written {
-        let end = state.session;
-        let finish = end.finish();
-        return closing::last_line(finish, state.taken, state.refusal, text);
+    if !state.written {
+        return 0;
     }
-    0
+    let finish = state.session.finish();
+    closing::last_line(finish, state.taken, state.refusal, text)
 }
 
 // "The query is judged first"
@@ -56,14 +55,10 @@ fn answer(rt: &HostRuntime, query: &[u8], text: &mut [u8]) -> usize
 {
     let mut elements = [0u8; 16384];
     let mut nodes = [0u8; 32768];
-    let begun = session::begin(query, &elements, &nodes);
-    let answer = begun.answer;
-    let refused = closing::query_line(answer, text);
-    if 0 < refused {
-        return refused;
+    match turns::admit(query, &elements, &nodes, text) {
+        Ok(session) => answer_events(rt, session, &mut elements, &mut nodes, text),
+        Err(line) => line,
     }
-    let session = begun.session;
-    answer_events(rt, session, &mut elements, &mut nodes, text)
 }
 
 // The whole program; `main` itself can have no contract.
@@ -73,11 +68,9 @@ fn answer_files(rt: &HostRuntime)
     // one record more than a query may have
     let mut query = [0u8; 264];
     let mut text = [0u8; 90112];
-    let file = system::open(rt, b"query.rec");
-    let n = system::read_full(&file, &mut query);
-    system::close(file);
+    let n = system::read_file(rt, b"query.rec", &mut query);
     let length = answer(rt, &query[..n], &mut text);
-    block::write_text(rt.stdout(), &text, length);
+    system::write(rt.stdout(), &text[..length]);
 }
 
 fn main(rt: HostRuntime) {

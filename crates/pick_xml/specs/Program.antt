@@ -1,5 +1,6 @@
 -- WHAT THE PROGRAM OWES, and what it promises of a run.
 --
+--   text_line l v             the last line where no event was refused: by the text's verdict v, or l where it has no refusal
 --   last_line_for o q es v    the last line for a text with the verdict v whose events came to es and the refusal o
 --   line_of st               the same, by what the turns have come to
 --   picked_for q names text  all that is written for a text, by a query that is admitted and a list that is taken
@@ -16,8 +17,9 @@
 -- a list (crate listed), what offering records comes to (crate meaning, Offering), the lines' bytes (crate lines, Text), what "given", "handed" and
 -- "delivered" are (crate system, Marks).
 pub mod Laws
-use Rattle.std.specs.Prelude.{ℕ, ◌+◌, ◌≤◌, ◌⊎◌, ◌≡◌, List, [], ◌∷◌, ◌++◌, eqb, length, take}
+use Rattle.std.specs.Prelude.{ℕ, ◌+◌, ◌≤◌, ◌⊎◌, ◌≡◌, List, [], ◌∷◌, ◌++◌, Option as Perhaps, None, Some, eqb, length, take}
 use Rattle.std.proofs.Math.Option.{Option, none, some}
+use Rattle.limits.specs.Number.{fault_of}
 use Rattle.choice.specs.When.{when}
 use Rattle.meaning.specs.Query.{Query}
 use Rattle.meaning.specs.Stream.{Event, document}
@@ -34,27 +36,29 @@ use Rattle.system.specs.Marks.{Delivered, Failed}
 use Rattle.closing.specs.Line.{last_line}
 use Rattle.turns.specs.Turns.{BegunFor}
 use Rattle.turns.specs.Owed.{finish_line_of}
-use Rattle.intake.specs.declared.Verdict.{Verdict}
-use Rattle.intake.specs.Owed.{text_verdict, text_records}
+use Rattle.intake.specs.Owed.{Judged, text_verdict, text_records}
 use Rattle.intake.specs.Names.{FileRead, NamesRead}
 use Rattle.intake.specs.Intake.{longest, verdict_for}
 use Rattle.intake.specs.Catalogue.{catalogue_name}
 use Rattle.text_turns.specs.declared.Stand.{Stand}
 use Rattle.text_turns.specs.Picked.{offered_text}
 
+abbrev pub text_line : List ℕ → Perhaps Judged → List ℕ
+text_line l None = l
+text_line l (Some v) = refused_at_line v.refusal v.at
+
 -- "for the picker's refusals, 5 to 7, E is the number of the refused event; for 30 to 44 that of the byte"
-unfoldable pub last_line_for : Option ℕ → Query → List Event → Verdict → List ℕ
+unfoldable pub last_line_for : Option ℕ → Query → List Event → Perhaps Judged → List ℕ
 last_line_for (some r) q es v = refused_at_line r (length es + 1)
-last_line_for none q es v = when (eqb v.refusal 0) (finish_line_of q es) (refused_at_line v.refusal v.at)
+last_line_for none q es v = text_line (finish_line_of q es) v
 
 unfoldable pub line_of : Stand → List ℕ
 line_of st =
-    when (eqb st.state.refusal 0)
-    (when (eqb (verdict_for st.intake).refusal 0) (last_line (finish st.state.session) st.state.taken st.state.refusal)
-    (refused_at_line (verdict_for st.intake).refusal (verdict_for st.intake).at))
-    (last_line (finish st.state.session) st.state.taken st.state.refusal)
+    when (eqb (fault_of st.state.refusal) 0)
+    (text_line (last_line (finish st.state.session) st.state.taken (fault_of st.state.refusal)) (verdict_for st.intake))
+    (last_line (finish st.state.session) st.state.taken (fault_of st.state.refusal))
 
-abbrev pub written_for : Query → Offering → Verdict → List ℕ
+abbrev pub written_for : Query → Offering → Perhaps Judged → List ℕ
 written_for q w v = lines_of (listed q (document w.events)) ++ last_line_for w.refusal q w.events v
 
 abbrev pub picked_for : Query → List ℕ → List ℕ → List ℕ

@@ -23,17 +23,12 @@ fn last_line(stand: Stand, lines: &mut [u8]) -> usize
     ensures prefix_len { IsPrefixLen result lines.new }
 {
     let state = stand.state;
-    let session = state.session;
-    let finish = session.finish();
-    if state.refusal != 0 {
-        return closing::last_line(finish, state.taken, state.refusal, lines);
+    if state.refusal.is_none() {
+        if let Some(verdict) = intake::judge(stand.intake) {
+            return lines::put_refused_at(verdict.refusal.number(), verdict.at, lines);
+        }
     }
-    let intake = stand.intake;
-    let verdict = intake::judge(intake);
-    if verdict.refusal != 0 {
-        return lines::put_refused_at(verdict.refusal, verdict.at, lines);
-    }
-    closing::last_line(finish, state.taken, state.refusal, lines)
+    closing::last_line(state.session.finish(), state.taken, state.refusal, lines)
 }
 
 // "a file that can't be opened counts as empty": every read of it fails. Where standard output takes no more, no last line is put.
@@ -63,11 +58,11 @@ fn answer_text(
         lines,
     );
     system::close(file);
-    let state = stand.state;
-    if state.written {
-        return last_line(stand, lines);
+    if stand.state.written {
+        last_line(stand, lines)
+    } else {
+        0
     }
-    0
 }
 
 // The list of names is judged before the text.
@@ -86,11 +81,10 @@ fn answer_names(
     let mut names = intake::names_room();
     let mut index = intake::index_room();
     let n = intake::read_names(rt, &mut names);
-    let listing = names::build(&names[..n], &mut index);
-    if listing.refusal != 0 {
-        return lines::put_refused_at(listing.refusal, listing.line as u64, lines);
+    match names::build(&names[..n], &mut index) {
+        Ok(()) => answer_text(rt, session, &names[..n], &index, elements, nodes, lines),
+        Err(fault) => lines::put_refused_at(fault.refusal.number(), fault.line as u64, lines),
     }
-    answer_text(rt, session, &names[..n], &index, elements, nodes, lines)
 }
 
 // "The query is judged first"
@@ -101,14 +95,10 @@ fn answer(rt: &HostRuntime, query: &[u8], lines: &mut [u8]) -> usize
 {
     let mut elements = [0u8; 16384];
     let mut nodes = [0u8; 32768];
-    let begun = session::begin(query, &elements, &nodes);
-    let answer = begun.answer;
-    let refused = closing::query_line(answer, lines);
-    if 0 < refused {
-        return refused;
+    match turns::admit(query, &elements, &nodes, lines) {
+        Ok(session) => answer_names(rt, session, &mut elements, &mut nodes, lines),
+        Err(line) => line,
     }
-    let session = begun.session;
-    answer_names(rt, session, &mut elements, &mut nodes, lines)
 }
 
 // The whole program; `main` itself can have no contract.
@@ -118,11 +108,9 @@ fn answer_files(rt: &HostRuntime)
     // one record more than a query may have
     let mut query = [0u8; 264];
     let mut lines = [0u8; 90112];
-    let file = system::open(rt, b"query.rec");
-    let n = system::read_full(&file, &mut query);
-    system::close(file);
+    let n = system::read_file(rt, b"query.rec", &mut query);
     let length = answer(rt, &query[..n], &mut lines);
-    block::write_text(rt.stdout(), &lines, length);
+    system::write(rt.stdout(), &lines[..length]);
 }
 
 fn main(rt: HostRuntime) {

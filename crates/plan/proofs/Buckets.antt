@@ -1,8 +1,6 @@
 -- The loop that files the steps into buckets, from the last step on.
 --
---   known T l           the buckets where the steps from place l on are filed, for the tests T;  known_length: how many they are
---   added_first, added_more     a bucket that has had no step; one that has
---   filed_star, filed_name      a star is filed nowhere; a name in its bucket
+--   known T l           the buckets where the steps from place l on are filed, for the tests T
 --   known_none, known_step, known_all      before the last step; one step more; after the first
 --
 -- Assumes nothing.
@@ -15,26 +13,11 @@ use mathlib.Core.List.{List, ◌∷◌}
 use lib.Dec.{eqb}
 use lib.ListN.{length, get_or, set, take, drop, length-set, drop_of_length-le}
 use lib.Seq.{get_or-set_same, get_or-set_other, get_or-take, drop-cons, length-take-le}
-use borrow.Author.Tests.{eqb-true, eqb-false, eq-eqb, ne_eqb}
+use borrow.Author.Tests.{eqb-true, eqb-false}
 use Rattle.meaning.specs.Name.{star}
 use Rattle.sets.specs.Table.{table_of, length_table_of, get_d_table_of, is_table_of}
 use Rattle.plan.specs.Asked.{added_to, bucket_from, bucket, filed}
 use Rattle.plan.specs.Planned.{bucket_count, several_steps, zeros}
-
-pub added_first : (m t later : ℕ) → later ≡ 0 → t ≡ added_to m t later
-added_first m t later e = sym (ap (λ b. cond b t m) (eq-eqb later 0 e))
-
-pub added_more : (m t later : ℕ) → (later ≡ 0 → ⊥) → m ≡ added_to m t later
-added_more m t later f = sym (ap (λ b. cond b t m) (ne_eqb later 0 f))
-
-module _ (m w t n : ℕ) (B : List ℕ) where
-  pub filed_star : n ≡ 0 → B ≡ filed m w t n B
-  unfolding filed
-  filed_star e = sym (ap (λ b. cond b B (set B (n % w) (added_to m t (get_or B (n % w) 0)))) (eq-eqb n star e))
-
-  pub filed_name : (n ≡ 0 → ⊥) → set B (n % w) (added_to m t (get_or B (n % w) 0)) ≡ filed m w t n B
-  unfolding filed
-  filed_name f = sym (ap (λ b. cond b B (set B (n % w) (added_to m t (get_or B (n % w) 0)))) (ne_eqb n star f))
 
 -- the buckets of the tests ns of the steps from t on
 abbrev from : ℕ → ℕ → ℕ → List ℕ → List ℕ
@@ -79,10 +62,6 @@ module _ (m w t n : ℕ) (ns : List ℕ) (some : 0 < w) where
 
 unfoldable pub known : List ℕ → ℕ → List ℕ
 known T l = from several_steps bucket_count l (drop l T)
-
-pub known_length : (T : List ℕ) (l : ℕ) {B : List ℕ} → B ≡ known T l → length B ≡ bucket_count
-unfolding known
-known_length T l e = ap length e ∙ length_table_of bucket_count _
 
 pub known_none : (T : List ℕ) (l : ℕ) → length T ≤ l → zeros bucket_count ≡ known T l
 unfolding known bucket_from table_of

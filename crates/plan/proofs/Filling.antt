@@ -2,7 +2,6 @@
 --
 --   padded_put      where f has been put into the slots under s, putting f s into slot s leads to the next
 --   padded_none     before the first slot
---   padded_all      after the last
 --
 -- Assumes nothing.
 use Prim.Native.Nat.{ℕ, zero, suc, ◌+◌, ◌-◌, ◌<◌}
@@ -38,6 +37,3 @@ padded_put s f {v} {slots} h e put =
     ∙ sym (append_snoc (table_of s f) (f s) (zeros (most_steps - suc s)))
     ∙ ap₂ (λ xs n. xs ++ zeros n) (sym (table_snoc s f)) left
     ∙ ap (λ n. filled (table_of n f)) (sym (add-one s))
-
-pub padded_all : (s n : ℕ) (f : ℕ → ℕ) {slots : List ℕ} → s ≡ n → slots ≡ padded s f → slots ≡ padded n f
-padded_all s n f l e = e ∙ ap (λ k. padded k f) l

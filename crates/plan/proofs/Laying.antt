@@ -4,7 +4,6 @@
 --   mains q l n      how many of these steps are on the main path
 --   laid_none        before the last step
 --   laid_step        one step more; mains_step: and its count
---   placed_within    a step's place is within the free ones
 --   flag_small       a flag counts 1 at most
 --   laid_all         after the first step: the order of all
 --
@@ -79,10 +78,6 @@ lay false st k ms rs zs =
   where
     long : length (numbers_of (reverse ms) ++ zeros k) ≡ length ms + k
     long = length-append (numbers_of (reverse ms)) (zeros k) ∙ ap₂ ◌+◌ (length-map (reverse ms) before ∙ length-reverse ms) (length-replicate k 0)
-
-pub placed_within : (b : Bool) (m l : ℕ) → placed b m l ≤ m + l
-placed_within true m l = omega arith
-placed_within false m l = omega arith
 
 pub flag_small : (b : Bool) → bool_byte b ≤ 1
 flag_small true = omega arith

@@ -4,7 +4,6 @@
 --   size_of n           how many of n steps are planned
 --   planned q          the query that is planned: the first steps that the bytes mean, 32 at most
 --   starts st          st is on the main path and hangs on the document
---   passed t st        the step st passes the test t
 --   before p           how many steps are before p in the query
 --   placed m ms l      the place of a step, on the main path or not, where ms main-path steps have theirs and l places stay free
 --   zeros n            n times 0
@@ -20,8 +19,7 @@
 --
 -- Assumes nothing. NOT here: the plan of a query (Plan), that plan_of is that of an admitted query (Planned.Laws).
 use Rattle.std.specs.Prelude.{ℕ, ◌+◌, ◌-◌, ◌≤◌, min, ◌≡◌, Bool, true, false, ◌&&◌, List, ◌++◌, map, eqb, length, replicate}
-use Rattle.meaning.specs.Name.{star}
-use Rattle.meaning.specs.Query.{Step, Query, Numbered, hangs, goes_deep}
+use Rattle.meaning.specs.Query.{Step, Query, Numbered}
 use Rattle.sets.specs.Table.{table_of}
 use Rattle.plan.specs.Asked.{stars_of, bucket}
 use Rattle.query.specs.Rules.{most_steps, steps, step_of}
@@ -30,8 +28,6 @@ use Rattle.plan.specs.Order.{order}
 use Rattle.plan.specs.Plan as Of
 use Rattle.plan.specs.Plan.{plan}
 use Rattle.plan.specs.declared.Plan.{Plan}
-use Rattle.plan.specs.declared.Test.{Test}
-use Rattle.plan.specs.declared.Test.TheVariants.{OnMain, Starts, Deep, Star, HangsOn}
 
 abbrev pub step_at : List ℕ → ℕ → Step
 step_at q s = decode_step (step_of q s)
@@ -44,13 +40,6 @@ planned q = decode_from q (size_of (steps q)) 0
 
 abbrev pub starts : Step → Bool
 starts st = st.main && eqb st.parent 0
-
-abbrev pub passed : Test → Step → Bool
-passed OnMain st = st.main
-passed Starts st = starts st
-passed Deep st = goes_deep st.axis
-passed (HangsOn s) st = hangs st (s + 1)
-passed Star st = eqb st.name star
 
 abbrev pub before : Numbered → ℕ
 before p = p.number - 1

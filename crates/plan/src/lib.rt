@@ -3,30 +3,35 @@
 // Each step has a place, which is its bit: first the main path from its last step to its first, then the predicate steps as they come in the
 // query. So the step after a main-path step is one place lower, and the last main-path step is at place 0.
 // A plan is made of any bytes, of their first 32 steps; that of an admitted query is the plan of what the bytes mean (proofs/Planned/Laws.antt).
-#![tactic(auto)]
+#![tactic(auto, unfolding(query::specs::Decode::decode_step, meaning::specs::Query::hangs))]
 
-ghost use Rattle.std.specs.Prelude.{◌≡◌, ◌+◌, ◌≤◌, ◌<◌, eqb, length, get_or, take};
+ghost use Rattle.std.specs.Prelude.{◌≡◌, ◌+◌, ◌≤◌, ◌<◌, get_or, take};
 ghost use Rattle.meaning.specs.Query.{hangs, goes_deep};
 ghost use Rattle.sets.specs.Set.{mask_of};
 ghost use Rattle.sets.specs.Table.{table_of};
 ghost use Rattle.query.specs.Rules.{step_bytes, step_of};
 ghost use Rattle.plan.specs.Asked.{added_to, bucket, filed};
-ghost use Rattle.plan.specs.Planned.{bucket_count, several_steps, step_at, size_of, starts, passed, placed, order_of, padded, PlanGives};
+ghost use Rattle.plan.specs.Planned.{bucket_count, several_steps, step_at, size_of, starts, placed, order_of, padded, PlanGives};
 
-use query::AxisByte;
+use query::Axis;
+
+// The places: one for each step that a query may have.
+const STEPS: usize = query::MOST_STEPS;
 
 // How many buckets the names are put into, by their remainder.
 pub const BUCKETS: usize = 64;
 
 // What a bucket says where several steps ask for names of it: no place, as there are at most so many steps.
-const SEVERAL: u8 = 32;
+// Kept: 0 and `SEVERAL` beside the places are what `bucket` (specs/Asked) says, and stand so in the bytes that a session keeps (docs/FORMATS.md).
+const SEVERAL: u8 = STEPS as u8;
 
+// Kept: columns, and no array of steps: `columns` in the promise PlanGives has them so, and docs/SCOPE.md wants the sets of steps as masks.
 #[derive(Drop)]
 pub struct Plan {
     // The name test of the step at each place; 0 past the last step, as in `hung`.
-    pub names: [u16; 32],
+    pub names: [u16; STEPS],
     // The predicate steps that hang on the step at each place.
-    pub hung: [u32; 32],
+    pub hung: [u32; STEPS],
     // How many steps there are.
     pub size: usize,
     // The steps on the descendant axis.
@@ -40,72 +45,48 @@ pub struct Plan {
     // The steps that ask for every name.
     pub stars: u32,
     // For each bucket of names the place of the only step that asks for a name of it; `SEVERAL` for several, 0 for none.
-    pub buckets: [u8; 64],
-}
-
-// A test of a step.
-#[derive(Clone, Copy)]
-enum Test {
-    // "on the main path"
-    OnMain,
-    // The first on the main path: it hangs on the document.
-    Starts,
-    // On the descendant axis.
-    Deep,
-    // "0 is * and matches every element"
-    Star,
-    // In a predicate, and it hangs on the step that has so many steps before it.
-    HangsOn(u8),
+    pub buckets: [u8; BUCKETS],
 }
 
 // The plan of a query's bytes.
 pub fn plan_of(query: &[u8]) -> Plan
     ensures { PlanGives query.now result }
 {
-    let size = size_of(query.len() / 8);
+    let size = size_of(query.len() / query::STEP_BYTES);
     let order = order_of(query, size);
-    let names = names_of(query, order, size);
-    let hung = hung_of(query, order, size);
-    let deep = set_of(query, order, size, Test::Deep);
-    let main = set_of(query, order, size, Test::OnMain);
-    let plain = plain_of(hung, size);
-    let first = set_of(query, order, size, Test::Starts);
-    let stars = set_of(query, order, size, Test::Star);
-    let buckets = buckets_of(names, size);
+    let names = names_of(query, &order, size);
+    let hung = hung_of(query, &order, size);
     Plan {
-        names: names,
-        hung: hung,
-        size: size,
-        deep: deep,
-        main: main,
-        plain: plain,
-        first: first,
-        stars: stars,
-        buckets: buckets,
+        size,
+        deep: sets::collected(size, |place| goes_deep(query, order[place])),
+        main: sets::collected(size, |place| is_main(query, order[place])),
+        plain: sets::collected(size, |place| hung[place] == 0),
+        first: sets::collected(size, |place| is_start(query, order[place])),
+        stars: sets::collected(size, |place| names[place] == 0),
+        buckets: buckets_of(&names, size),
+        names,
+        hung,
     }
 }
 
-// "at most 32 steps"
+// How many of so many steps are planned: "at most 32 steps"
 pub fn size_of(count: usize) -> usize
     ensures { result ≡ size_of count }
 {
-    if count < 32 { count } else { 32 }
+    count.min(STEPS)
 }
 
 // The steps in the order of their places, each as the number of steps before it. They are gone through from the last on: `left` places are free
 // between the main-path steps and the predicate steps, a main-path step takes the first of them, and a predicate step the last.
-fn order_of(query: &[u8], size: usize) -> [u8; 32]
+fn order_of(query: &[u8], size: usize) -> [u8; STEPS]
     requires { size ≤ 32 }
     ensures { result ≡ order_of query.now size }
 {
-    let mut order = [0u8; 32];
+    let mut order = [0u8; STEPS];
     let mut mains: usize = 0;
-    let mut left = size;
-    while 0 < left {
-        left -= 1;
+    for left in (0..size).rev() {
         let main = is_main(query, left as u8);
-        let at = place_for(main, mains, left);
-        order[at] = left as u8;
+        order[place_for(main, mains, left)] = left as u8;
         mains += main as usize;
     }
     order
@@ -119,82 +100,51 @@ fn place_for(main: bool, mains: usize, left: usize) -> usize
     if main { mains } else { mains + left }
 }
 
-fn names_of(query: &[u8], order: [u8; 32], size: usize) -> [u16; 32]
+fn names_of(query: &[u8], order: &[u8; STEPS], size: usize) -> [u16; STEPS]
     requires { size ≤ 32 }
-    ensures { result ≡ padded size (λ t. (step_at query.now (get_or order t 0)).name) }
+    ensures { result ≡ padded size (λ t. (step_at query.now (get_or order.now t 0)).name) }
 {
-    let mut names = [0u16; 32];
-    let mut place: usize = 0;
-    while place < size {
-        let name = name_of(query, order[place]);
-        names[place] = name;
-        place += 1;
+    let mut names = [0u16; STEPS];
+    for place in 0..size {
+        names[place] = name_of(query, order[place]);
     }
     names
 }
 
-fn hung_of(query: &[u8], order: [u8; 32], size: usize) -> [u32; 32]
+fn hung_of(query: &[u8], order: &[u8; STEPS], size: usize) -> [u32; STEPS]
     requires { size ≤ 32 }
-    ensures { result ≡ padded size (λ t. mask_of size (λ u. hangs (step_at query.now (get_or order u 0)) (get_or order t 0 + 1))) }
+    ensures { result ≡ padded size (λ t. mask_of size (λ u. hangs (step_at query.now (get_or order.now u 0)) (get_or order.now t 0 + 1))) }
 {
-    let mut hung = [0u32; 32];
-    let mut place: usize = 0;
-    while place < size {
-        let step = order[place];
-        let set = set_of(query, order, size, Test::HangsOn(step));
-        hung[place] = set;
-        place += 1;
+    let mut hung = [0u32; STEPS];
+    for place in 0..size {
+        hung[place] = hung_on(query, order, size, order[place]);
     }
     hung
 }
 
-// The places under `size` whose step passes the test.
-fn set_of(query: &[u8], order: [u8; 32], size: usize, test: Test) -> u32
+// The places under `size` whose step hangs on step `on`.
+fn hung_on(query: &[u8], order: &[u8; STEPS], size: usize, on: u8) -> u32
     requires { size ≤ 32 }
-    ensures { result ≡ mask_of size (λ t. passed test (step_at query.now (get_or order t 0))) }
+    ensures { result ≡ mask_of size (λ t. hangs (step_at query.now (get_or order.now t 0)) (on + 1)) }
 {
-    let mut set: u32 = 0;
-    let mut place: usize = 0;
-    while place < size {
-        let passes = passes(query, order[place], test);
-        set = set | ((passes as u32) << place);
-        place += 1;
-    }
-    set
-}
-
-fn plain_of(hung: [u32; 32], size: usize) -> u32
-    requires { size ≤ 32 }
-    ensures { result ≡ mask_of size (λ t. eqb (get_or hung t 0) 0) }
-{
-    let mut set: u32 = 0;
-    let mut place: usize = 0;
-    while place < size {
-        let on = hung[place];
-        let plain = on == 0;
-        set = set | ((plain as u32) << place);
-        place += 1;
-    }
-    set
+    sets::collected(size, |place| hangs_on(query, order[place], on))
 }
 
 // The buckets for the first `size` names. The steps are gone through from the last on, so a bucket that says 0 has had no step before step 0 comes.
-fn buckets_of(names: [u16; 32], size: usize) -> [u8; 64]
+fn buckets_of(names: &[u16; STEPS], size: usize) -> [u8; BUCKETS]
     requires { size ≤ 32 }
-    ensures { result ≡ table_of bucket_count (bucket several_steps bucket_count (take size names)) }
+    ensures { result ≡ table_of bucket_count (bucket several_steps bucket_count (take size names.now)) }
 {
-    let mut buckets = [0u8; 64];
-    let mut left = size;
-    while 0 < left {
-        left -= 1;
-        file(&mut buckets, names[left], left as u8);
+    let mut buckets = [0u8; BUCKETS];
+    for place in (0..size).rev() {
+        file(&mut buckets, names[place], place as u8);
     }
     buckets
 }
 
 // A step that asks for this name is added to the name's bucket; a star is in none.
-fn file(buckets: &mut [u8], name: u16, place: u8)
-    requires { length buckets.old ≡ bucket_count }
+#[tactic(auto, unfolding(crate::specs::Asked::filed))]
+fn file(buckets: &mut [u8; BUCKETS], name: u16, place: u8)
     ensures { buckets.new ≡ filed several_steps bucket_count place name buckets.old }
 {
     if name == 0 {
@@ -211,18 +161,6 @@ fn added_to(later: u8, place: u8) -> u8
     if later == 0 { place } else { SEVERAL }
 }
 
-fn passes(query: &[u8], step: u8, test: Test) -> bool
-    ensures { result ≡ passed test (step_at query.now step) }
-{
-    match test {
-        Test::OnMain => is_main(query, step),
-        Test::Starts => is_start(query, step),
-        Test::Deep => goes_deep(query, step),
-        Test::Star => name_of(query, step) == 0,
-        Test::HangsOn(on) => hangs_on(query, step, on),
-    }
-}
-
 // A step is told by the number of steps before it; one past the end of the query has 0 in every byte.
 
 fn is_main(query: &[u8], step: u8) -> bool
@@ -235,47 +173,36 @@ fn is_main(query: &[u8], step: u8) -> bool
 fn is_start(query: &[u8], step: u8) -> bool
     ensures { result ≡ starts (step_at query.now step) }
 {
-    if is_main(query, step) {
-        return byte_of(query, step, 2) == 0;
-    }
-    false
+    is_main(query, step) && byte_of(query, step, 2) == 0
 }
 
+#[tactic(auto, unfolding(query::specs::Decode::decode_step, query::specs::Decode::axis_meant, meaning::specs::Query::goes_deep))]
 fn goes_deep(query: &[u8], step: u8) -> bool
     ensures { result ≡ goes_deep (step_at query.now step).axis }
 {
     let axis = query::axis_named(byte_of(query, step, 0));
-    match axis {
-        AxisByte::Child => false,
-        AxisByte::Descendant => true,
-        AxisByte::Unknown => false,
-    }
+    matches!(axis, Some(Axis::Descendant))
 }
 
 // "number of the step this one hangs on": numbers start at 1.
 fn hangs_on(query: &[u8], step: u8, on: u8) -> bool
     ensures { result ≡ hangs (step_at query.now step) (on + 1) }
 {
-    if is_main(query, step) {
-        return false;
-    }
-    let number = byte_of(query, step, 2);
-    number as u16 == on as u16 + 1
+    !is_main(query, step) && byte_of(query, step, 2) as u16 == on as u16 + 1
 }
 
 // "Two-byte numbers have the high byte first."
 fn name_of(query: &[u8], step: u8) -> u16
     ensures { result ≡ (step_at query.now step).name }
 {
-    let high = byte_of(query, step, 4);
-    let low = byte_of(query, step, 5);
-    (high as u16) * 256 + low as u16
+    u16::from_be_bytes([byte_of(query, step, 4), byte_of(query, step, 5)])
 }
 
+#[tactic(auto, using(crate::proofs::Bytes::byte_in))]
 fn byte_of(query: &[u8], step: u8, at: usize) -> u8
     requires { at < step_bytes }
     ensures { result ≡ get_or (step_of query.now step) at 0 }
 {
-    let place = (step as usize) * 8 + at;
-    if place < query.len() { query[place] } else { 0 }
+    let place = step as usize * query::STEP_BYTES + at;
+    query.get(place).copied().unwrap_or(0)
 }

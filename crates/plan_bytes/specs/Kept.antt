@@ -6,9 +6,10 @@
 --   name_in bs t         the name that step t asks for, in 2 bytes;  bucket_in bs s: what bucket s says, in one
 --   asking_in bs         what the bytes keep for the name tests
 --   kept_in bs           the plan that bytes stand for: any bytes stand for one. Its name tests are those by which its steps are found (test_of)
---   set_of which P       one of its sets of steps
+--   set_place which      which of the numbers is a set of steps;  set_of which P: that set of the plan P
 --   slots l             the first 32 of l, 0 past its end;  slot l t: number t of them
 --   pairs l, fours l    32 numbers of 2 bytes as 16 of 4;  64 of one byte as 16 of 4.  pair l i, four l i: number i of them
+--   RowsOfCalls R i n ws ws'   ws' is ws with n numbers from place i on, those of some calls, R saying what a call may answer
 --   packed_over p ws     the numbers ws with those of the plan p written over them;  packed p: over zeros
 --
 -- Assumes nothing. NOT here: that the plan of a query is read as it was packed (Kept.Packed, Kept.Planned).
@@ -16,9 +17,11 @@ pub mod Laws
 pub mod Asked
 pub mod Packed
 pub mod Planned
-use Rattle.std.specs.Prelude.{ℕ, ◌+◌, ◌*◌, ◌%◌, List, [], ◌∷◌, get_or, replicate}
+use Rattle.std.specs.Prelude.{ℕ, ◌+◌, ◌*◌, ◌%◌, ◌<◌, ◌≡◌, List, [], ◌∷◌, get_or, replicate}
 use Rattle.std.proofs.lemmas.List.Edits.{sets}
 use Rattle.plan.specs.declared.Plan as struct
+use Rattle.plan_bytes.specs.declared.Set.{Set}
+use Rattle.plan_bytes.specs.declared.Set.TheVariants.{Deep, Main, Plain, First}
 use Rattle.plan.specs.Plan.{Plan}
 use Rattle.query.specs.Rules.{most_steps}
 use Rattle.plan.specs.Asked.{Asking, test_of, place_by}
@@ -61,8 +64,17 @@ kept_in bs =
       first = get_or (words bs) 4 0;
     }
 
-abbrev pub set_of : ℕ → Plan → ℕ
-set_of which P = get_or (0 ∷ P.deep ∷ P.main ∷ P.plain ∷ P.first ∷ []) which 0
+abbrev pub set_place : Set → ℕ
+set_place Deep = 1
+set_place Main = 2
+set_place Plain = 3
+set_place First = 4
+
+abbrev pub set_of : Set → Plan → ℕ
+set_of Deep P = P.deep
+set_of Main P = P.main
+set_of Plain P = P.plain
+set_of First P = P.first
 
 abbrev pub slot : List ℕ → ℕ → ℕ
 slot l t = get_or l t 0
@@ -81,6 +93,12 @@ pairs l = rows 16 (pair l)
 
 unfoldable pub fours : List ℕ → List ℕ
 fours l = rows 16 (four l)
+
+-- the numbers are those that the calls answered, a call for each place
+pub record RowsOfCalls (R : ℕ → ℕ → Type 0) (at n : ℕ) (ws ws' : List ℕ) : Type 0 where
+  pub number : ℕ → ℕ
+  pub written : ws' ≡ sets ws at (rows n number)
+  pub answered : (i : ℕ) → i < n → R i (number i)
 
 unfoldable pub packed_over : struct.Plan → List ℕ → List ℕ
 packed_over p ws =

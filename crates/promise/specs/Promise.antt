@@ -9,7 +9,7 @@
 -- Assumes that the bytes of a query are bytes. NOT promised: anything but safety of a session value that no calls reach, or of room in which the records in
 -- use are others than the last call left. NOT here: what an event gives (Promise.Event).
 pub mod Event
-use Rattle.std.specs.Prelude.{ℕ, ◌≡◌, Bool, not, List, [], length, take}
+use Rattle.std.specs.Prelude.{ℕ, ◌≡◌, Bool, not, List, [], Result, Ok, Err, length, take}
 use Rattle.std.proofs.Common.{arith, sym, ap, ◌∙◌, subst}
 use Rattle.std.proofs.Math.Path.{refl, ap₂}
 use Rattle.std.proofs.Math.Bool.{true, false}
@@ -24,6 +24,8 @@ use Rattle.meaning.specs.Stream.{run, document, always, Stream}
 use Rattle.meaning.specs.Answer as meaning
 use Rattle.meaning.specs.Answer.{Call, Past, going, too_small, finish_refusals, refusals, first_or, first, yield, answer_if, answer, after_all}
 use Rattle.meaning.proofs.Answer.Bounds.{Bounded, accepted_within}
+use Rattle.limits.specs.declared.Refusal.{Refusal}
+use Rattle.limits.specs.declared.Refusal.TheVariants.{Stopped, Unfinished}
 use Rattle.query.specs.Answer as checked
 use Rattle.query.specs.Answer.{answer_to}
 use Rattle.query.specs.Decode.{decode, Bytes, Meant}
@@ -41,9 +43,7 @@ use Rattle.right.specs.Right.{stands_begun, ended_read, opened_read, handed_read
 use Rattle.right.specs.Rooms.{StandsIn}
 use Rattle.session.specs.declared.Session.{Session}
 use Rattle.session.specs.declared.Begun as given
-use Rattle.session.specs.declared.Start.TheVariants as started
-use Rattle.session.specs.declared.Finish as finishing
-use Rattle.session.specs.declared.Finish.TheVariants as finish-cases
+use Rattle.session.specs.declared.Counts.{Counts}
 use Rattle.session.specs.Begin.{fresh, said, Begun, start_answer, session_for, begun, BeginGives}
 use Rattle.session.specs.Event.{session_numbers, finish, FinishGives}
 use Rattle.session.specs.Run.{Housed, housed}
@@ -90,22 +90,25 @@ module _ {b : List ℕ} {p : Past} {l : Housed} (o : Of b p l) where
   waiting_held = waiting_read (decode b) d (session_numbers l.session) E₁ N₁ o.stands
 
   -- finish
+  abbrev counted : ℕ → ℕ → Counts
+  counted k h = record { opened = k; handed = h }
+
   finish_line_lem : (b x : Bool) (k h : ℕ) →
-      ended (when b (finish-cases.Refused already_stopped) (when x (finish-cases.Ended k h) (finish-cases.Refused unfinished)))
+      ended (when b (Err Stopped) (when x (Ok (counted k h)) (Err Unfinished)))
       ≡ answer_if (first_or b already_stopped (first_or (not x) unfinished none)) (meaning.ended k h)
   unfolding when ended answer_if first_or
   finish_line_lem true x k h = refl
   finish_line_lem false true k h = refl
   finish_line_lem false false k h = refl
 
-  pub finish_given : (f : finishing.Finish) → FinishGives l.session f → ended f ≡ answer (decode b) p Call.finish
+  pub finish_given : (f : Result Counts Refusal) → FinishGives l.session f → ended f ≡ answer (decode b) p Call.finish
   unfolding finish answer refusals finish_refusals first yield
   finish_given f g =
       g
-      ∙ ap₂ (λ (y x : Bool). ended (when y (finish-cases.Refused already_stopped)
-      (when x (finish-cases.Ended l.session.opened l.session.handed) (finish-cases.Refused unfinished)))) o.stop ended_is
-      ∙ ap₂ (λ (k h : ℕ). ended (when p.stopped (finish-cases.Refused already_stopped)
-      (when (finished d) (finish-cases.Ended k h) (finish-cases.Refused unfinished)))) opened_is handed_is
+      ∙ ap₂ (λ (y x : Bool). ended (when y (Err Stopped)
+      (when x (Ok (counted l.session.opened l.session.handed)) (Err Unfinished)))) o.stop ended_is
+      ∙ ap₂ (λ (k h : ℕ). ended (when p.stopped (Err Stopped)
+      (when (finished d) (Ok (counted k h)) (Err Unfinished)))) opened_is handed_is
       ∙ finish_line_lem p.stopped (finished d) (count d) (length (listed (decode b) d))
 
 -- begin
@@ -118,7 +121,7 @@ pub begin_session : (b E N : List ℕ) (r : given.Begun) → BeginGives b E N r 
 unfolding begun
 begin_session b E N r g = ap (λ (x : Begun). x.session) g
 
-pub begin_admitted : (b E N : List ℕ) (r : given.Begun) → BeginGives b E N r → r.answer ≡ started.Begun → answer_to b ≡ checked.admitted
+pub begin_admitted : (b E N : List ℕ) (r : given.Begun) → BeginGives b E N r → r.answer ≡ Ok tt → answer_to b ≡ checked.admitted
 unfolding start_answer said
 begin_admitted b E N r g told-so =
     when_known (λ (a : checked.Answer). a ≡ checked.admitted → answer_to b ≡ checked.admitted) (too_small (length E) (length N)) _ _
@@ -126,7 +129,7 @@ begin_admitted b E N r g told-so =
     (sym (begin_answer b E N r g) ∙ ap said told-so)
 
 pub begin_of :
-    (b E N : List ℕ) (r : given.Begun) → Bytes b → BeginGives b E N r → r.answer ≡ started.Begun → (A B : List ℕ) → Of b (going []) (housed r.session A B)
+    (b E N : List ℕ) (r : given.Begun) → Bytes b → BeginGives b E N r → r.answer ≡ Ok tt → (A B : List ℕ) → Of b (going []) (housed r.session A B)
 unfolding after_all always said document run session_for fresh
 begin_of b E N r bytes g told-so A B =
     let ok : answer_to b ≡ checked.admitted = begin_admitted b E N r g told-so in

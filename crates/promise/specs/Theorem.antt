@@ -28,7 +28,7 @@ pub mod Replies
 pub mod Blocks
 pub mod Stop
 pub mod Proof
-use Rattle.std.specs.Prelude.{ℕ, suc, ◌+◌, ◌*◌, ◌≤◌, ◌<◌, ◌↔◌, ◌⊎◌, ◌≡◌, true, false, T, length, take, drop}
+use Rattle.std.specs.Prelude.{ℕ, suc, ◌+◌, ◌*◌, ◌≤◌, ◌<◌, ◌↔◌, ◌⊎◌, ◌≡◌, true, false, None, Result, Ok, T, length, take, drop}
 use mathlib.Core.List.{List, [], ◌∷◌, ◌++◌, map, flat_map, Memᴰ}
 use Rattle.meaning.specs.Limits.{output_needed, elements_needed, nodes_needed}
 use Rattle.meaning.specs.Refusals.{short_output, short_room, already_stopped}
@@ -40,6 +40,8 @@ use Rattle.meaning.specs.Continuation.{Opened}
 use Rattle.meaning.proofs.Standing.Laws.{Rising}
 use Rattle.meaning.specs.Stream.{Event, document, Stream}
 use Rattle.meaning.specs.Answer.{Call, Answer, refused, taken, going, too_small, answers, after_all, handed_out}
+use Rattle.limits.specs.declared.Refusal.{Refusal}
+use Rattle.limits.specs.Number.{fault_of}
 use Rattle.query.specs.Answer as query
 use Rattle.query.specs.Answer.{Owed}
 use Rattle.query.specs.Decode.{decode, Bytes}
@@ -48,9 +50,8 @@ use Rattle.node.specs.Node.{queue_in}
 use Rattle.nodes.specs.Nodes.{numbers}
 use Rattle.session.specs.declared.Session.{Session}
 use Rattle.session.specs.declared.Begun.{Begun}
-use Rattle.session.specs.declared.Start.TheVariants as started
 use Rattle.session.specs.declared.Next.{Next}
-use Rattle.session.specs.declared.Finish.{Finish}
+use Rattle.session.specs.declared.Counts.{Counts}
 use Rattle.session.specs.declared.Answer as event-answer
 use Rattle.session.specs.declared.Answer.TheVariants.{Refused, Taken}
 use Rattle.session.specs.declared.Ran.{Ran}
@@ -66,7 +67,7 @@ pub data Use : Type 0 where
 
 pub data Reply : Type 0 where
   stepped : (r : Next) (E N out : List ℕ) → Reply
-  finish : (f : Finish) → Reply
+  finish : (f : Result Counts Refusal) → Reply
 
 pub data Played : Housed → List Use → List Reply → Housed → Type 0 where
   unused : {l : Housed} → Played l [] [] l
@@ -75,7 +76,7 @@ pub data Played : Housed → List Use → List Reply → Housed → Type 0 where
       (too_small (length E) (length N) ≡ false → SameUsed l E N) → EventGives l.session bytes E N out r E' N' out' →
       Played (left_by l E N r.session E' N') us rs k → Played l (offer bytes E N out ∷ us) (stepped r E' N' out' ∷ rs) k
   by_finish :
-      {l k : Housed} {f : Finish} {us : List Use} {rs : List Reply} → FinishGives l.session f → Played l us rs k →
+      {l k : Housed} {f : Result Counts Refusal} {us : List Use} {rs : List Reply} → FinishGives l.session f → Played l us rs k →
       Played l (ask ∷ us) (finish f ∷ rs) k
 
 -- "Nothing is asked of the room's content at begin"
@@ -85,7 +86,7 @@ pub record Reached (b : List ℕ) (us : List Use) (rs : List Reply) (l : Housed)
   pub N : List ℕ
   pub begun : Begun
   pub begins : BeginGives b E N begun
-  pub admitted : begun.answer ≡ started.Begun
+  pub admitted : begun.answer ≡ Ok tt
   pub played : Played (housed begun.session E N) us rs l
 
 unfoldable pub call_of : Use → Call
@@ -119,7 +120,7 @@ pub record Begins (b E N : List ℕ) (r : Begun) : Type 0 where
   pub small : too_small (length E) (length N) ≡ true → said r.answer ≡ query.refused short_room
   pub answered : too_small (length E) (length N) ≡ false → Owed b (said r.answer)
   pub blank :
-      (r.answer ≡ started.Begun → ⊥) → (b' E' N' : List ℕ) (r' : Begun) → BeginGives b' E' N' r' → (r'.answer ≡ started.Begun → ⊥) →
+      (r.answer ≡ Ok tt → ⊥) → (b' E' N' : List ℕ) (r' : Begun) → BeginGives b' E' N' r' → (r'.answer ≡ Ok tt → ⊥) →
       r.session ≡ r'.session
 
 pub record Promised (b : List ℕ) (us : List Use) (rs : List Reply) (l : Housed) : Type 0 where
@@ -199,10 +200,10 @@ pub record Block (b : List ℕ) (us : List Use) (rs : List Reply) (l : Housed) (
   pub reached : Reached b (us ++ offers) (rs ++ replies) left
   pub goes_on : too_small (length E) (length N) ≡ false → SameUsed left A B
   pub offered : Offered es E N out offers replies A B
-  pub answered : Answered r.taken r.refusal (map answer_of replies)
+  pub answered : Answered r.taken (fault_of r.refusal) (map answer_of replies)
   pub listed : r.listed ≡ length (nodes_of replies)
   pub written : out' ≡ records_of (nodes_of replies) ++ drop (4 * r.listed) out
-  pub ends : r.refusal ≡ 0 → (length es < 8 * r.taken + 8) ⊎ (length out < 4 * r.listed + output_needed)
+  pub ends : r.refusal ≡ None → (length es < 8 * r.taken + 8) ⊎ (length out < 4 * r.listed + output_needed)
 
 pub record Library : Type 0 where
   pub begins : (b E N : List ℕ) (r : Begun) → BeginGives b E N r → Begins b E N r
@@ -225,7 +226,7 @@ pub record Library : Type 0 where
   pub some_begin : (b E N : List ℕ) → (r : Begun) × BeginGives b E N r
   pub some_event :
       (s : Session) (bytes E N out : List ℕ) → (r : Next) × (E' : List ℕ) × (N' : List ℕ) × (out' : List ℕ) × EventGives s bytes E N out r E' N' out'
-  pub some_finish : (s : Session) → (f : Finish) × FinishGives s f
+  pub some_finish : (s : Session) → (f : Result Counts Refusal) × FinishGives s f
   pub some_run :
       (s : Session) (es E N out : List ℕ) → (r : Ran) × (A : List ℕ) × (B : List ℕ) × (out' : List ℕ) × RunGives s es E N out r A B out'
   pub some_use :

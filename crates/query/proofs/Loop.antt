@@ -1,7 +1,6 @@
--- One turn of the loop over the steps, over plain numbers: s steps have passed, and the next one's record starts at byte `at`.
+-- One turn of the loop over the steps, over plain numbers: s steps have passed, and `step` is the next one's record.
 --
---   part_is       the part of the query that the turn reads is that step's record
---   part_long     it has 8 bytes
+--   row_is        a record of the query's, as it is cut into records, is that of a step
 --   loop_starts   the answer from the first step on is the query's
 --   next_near     what the turn makes of the nearest main-path step
 --   turn          the answer from here on, by the step's reason
@@ -10,14 +9,11 @@
 --   loop_done     at the end the query is admitted
 --
 -- Assumes nothing.
-use Prim.Native.Nat.{ℕ, suc, ◌+◌, ◌-◌, ◌*◌, ◌≤◌, ◌<◌}
-use mathlib.Core.Path.{◌≡◌, sym, ap, ◌∙◌}
-use mathlib.Core.List.{List}
-use mathlib.Core.Option.{Option, none}
-use native.Mathlib.Omega.{arith}
-use native.Mathlib.Numerals.{add-one}
-use native.Mathlib.Nat.{sub-zero}
-use lib.ListN.{length, take, drop, length-take, length-drop}
+use Rattle.std.specs.Prelude.{ℕ, zero, suc, ◌+◌, ◌-◌, ◌*◌, ◌≤◌, ◌<◌, ◌≡◌, List, [], get_or, take, drop}
+use Rattle.std.specs.Simd.{first_chunks}
+use Rattle.std.proofs.Common.{sym, ap, ◌∙◌, arith, add-one, refl, drop-drop}
+use Rattle.std.proofs.Math.Nat.{sub-zero}
+use Rattle.std.proofs.Math.Option.{Option, none}
 use Rattle.meaning.specs.Query.{nearer}
 use Rattle.meaning.specs.Refusals.{bad_step}
 use Rattle.meaning.specs.Table.{first}
@@ -26,26 +22,25 @@ use Rattle.query.specs.Reasons.{reasons, reasons_with, lowest}
 use Rattle.query.proofs.Reasons.Laws.{reasons_is, lowest_some, lowest_none}
 use Rattle.query.specs.Answer.{admitted, refused_at, if_none, judged_from, judged}
 
-abbrev pub part_at : List ℕ → ℕ → List ℕ
-part_at q at = take ((at + 8) - at) (drop at q)
+row_at : (k : ℕ) (q : List ℕ) (s : ℕ) → s < k → get_or (first_chunks step_bytes k q) s [] ≡ step_of q s
+row_at zero q s l = absurd (omega arith)
+row_at (suc k) q zero l = refl
+row_at (suc k) q (suc s) l =
+    let far : step_bytes + step_bytes * s ≡ step_bytes * suc s = omega arith in
+    row_at k (drop step_bytes q) s (omega arith) ∙ ap (take step_bytes) (drop-drop (step_bytes * s) step_bytes q ∙ ap (λ n. drop n q) far)
 
-pub part_is : (q : List ℕ) (at s : ℕ) → at ≡ step_bytes * s → part_at q at ≡ step_of q s
-part_is q at s h =
-    let eight : (at + 8) - at ≡ 8 = omega arith in
-    rw (eight, h)
-
-pub part_long : (q : List ℕ) (at : ℕ) → at + 8 ≤ length q → length (part_at q at) ≡ step_bytes
-part_long q at h = simp (length-take, length-drop) (omega arith)
+pub row_is : (q : List ℕ) (rows : List (List ℕ)) (s : ℕ) → rows ≡ first_chunks step_bytes (steps q) q → s < steps q → get_or rows s [] ≡ step_of q s
+row_is q rows s e l = ap (λ xs. get_or xs s []) e ∙ row_at (steps q) q s l
 
 pub loop_starts : (q : List ℕ) → judged_from q (steps q - 0) 0 ≡ judged q
 unfolding judged
 loop_starts q = rw (sub-zero (steps q))
 
 pub next_near :
-    (q : List ℕ) (at s near next : ℕ) → at ≡ step_bytes * s → near ≡ nearest q s →
-    next ≡ nearer (is_main (part_at q at)) (s + 1) near → next ≡ nearest q (s + 1)
+    (q : List ℕ) {step : List ℕ} (s near next : ℕ) → step ≡ step_of q s → near ≡ nearest q s → next ≡ nearer (is_main step) (s + 1) near →
+    next ≡ nearest q (s + 1)
 unfolding nearest
-next_near q at s near next h n e = rw (add-one s) (e ∙ rw (part_is q at s h, add-one s, n))
+next_near q s near next row n e = rw (add-one s) (e ∙ rw (row, add-one s, n))
 
 left_is : (n s : ℕ) → s < n → n - s ≡ suc (n - suc s)
 left_is n s h = omega arith
@@ -54,11 +49,10 @@ turn : (q : List ℕ) (s : ℕ) → s < steps q → judged_from q (steps q - s) 
 unfolding judged_from
 turn q s h = rw (left_is (steps q) s h)
 
-module _ (q : List ℕ) (at s near r : ℕ) (begins : at ≡ step_bytes * s) (nears : near ≡ nearest q s)
-    (told : r ≡ lowest (reasons_with (part_at q at) (s + 1) near))
-    (goes : judged_from q (steps q - s) s ≡ judged q) (there : s < steps q) where
+module _ (q : List ℕ) {step : List ℕ} (s near r : ℕ) (row : step ≡ step_of q s) (nears : near ≡ nearest q s)
+    (told : r ≡ lowest (reasons_with step (s + 1) near)) (goes : judged_from q (steps q - s) s ≡ judged q) (there : s < steps q) where
   by_record : r ≡ lowest (reasons q s)
-  by_record = told ∙ ap lowest (rw (part_is q at s begins, add-one s, nears) (sym (reasons_is q s)))
+  by_record = told ∙ ap lowest (rw (row, add-one s, nears) (sym (reasons_is q s)))
 
   turned : (o : Option ℕ) → first (reasons q s) ≡ o → if_none o (suc s) (judged_from q (steps q - suc s) (suc s)) ≡ judged q
   turned o is = sym (turn q s there ∙ ap (λ x. if_none x (suc s) (judged_from q (steps q - suc s) (suc s))) is) ∙ goes

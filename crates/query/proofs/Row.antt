@@ -1,25 +1,37 @@
--- What a return goes by: a row of rules, in the order of their reasons, of which the first ones are known.
+-- What a return goes by: a row of rules, in the order of their reasons, of which the first ones are checked.
 --
---   kept      a call found the rule t kept: the rest of the row decides
---   broken    a call found the rule t broken: its reason is the lowest
---   none_left no rule is left
+--   kept      the check of the rule t finds it kept: the rest of the row decides
+--   broken    it finds it broken: its reason is the lowest
+--   last      no rule is left after it
 --
 -- Assumes nothing.
-use Prim.Native.Nat.{ℕ}
-use mathlib.Core.Path.{◌≡◌, refl, sym, ◌∙◌}
-use mathlib.Core.Bool.{Bool, true, false, not}
-use mathlib.Core.List.{List, [], ◌∷◌}
+use Rattle.std.specs.Prelude.{ℕ, ◌≡◌, Bool, true, false, not, List, [], ◌∷◌, Result, Ok, Err}
+use Rattle.std.proofs.Common.{ap}
+use Rattle.limits.specs.Number.{reason_number, reason_in}
+use Rattle.limits.specs.declared.Reason.{Reason}
 use Rattle.meaning.specs.Table.{Refusal, refusal, first_or, first}
-use Rattle.query.specs.Reasons.{lowest}
+use Rattle.query.specs.Reasons.{lowest, checked}
 
-pub kept : (r t : Bool) (n x : ℕ) (rs : List Refusal) → r ≡ t → r ≡ true → x ≡ lowest rs → x ≡ lowest (refusal n (not t) ∷ rs)
-unfolding lowest first first_or
-kept r t n x rs told is e = rw (sym told ∙ is) e
+module _ (R : Reason) (t : Bool) (rs : List Refusal) {c : Result (Unit {0}) Reason} (given : c ≡ checked R t) where
+  pub kept : {u : Unit {0}} (x : ℕ) → c ≡ Ok u → x ≡ lowest rs → x ≡ lowest (refusal (reason_number R) (not t) ∷ rs)
+  unfolding lowest first first_or
+  kept {u} x is e = go t given
+    where
+      go : (b : Bool) → c ≡ checked R b → x ≡ lowest (refusal (reason_number R) (not b) ∷ rs)
+      go true g = e
+      go false g = cc
 
-pub broken : (r t : Bool) (n : ℕ) (rs : List Refusal) → r ≡ t → r ≡ false → n ≡ lowest (refusal n (not t) ∷ rs)
-unfolding lowest first first_or
-broken r t n rs told is = rw (sym told ∙ is)
+  pub broken : {e : Reason} → c ≡ Err e → reason_number e ≡ lowest (refusal (reason_number R) (not t) ∷ rs)
+  unfolding lowest first first_or
+  broken {e} is = go t given
+    where
+      go : (b : Bool) → c ≡ checked R b → reason_number e ≡ lowest (refusal (reason_number R) (not b) ∷ rs)
+      go true g = cc
+      go false g = let same : e ≡ R = cc in ap reason_number same
 
-pub none_left : (n : ℕ) → 0 ≡ lowest (refusal n false ∷ [])
+pub last :
+    (R : Reason) (t : Bool) (n : ℕ) {c : Result (Unit {0}) Reason} → c ≡ checked R t →
+    reason_in c ≡ lowest (refusal (reason_number R) (not t) ∷ refusal n false ∷ [])
 unfolding lowest first first_or
-none_left n = refl
+last R true n g = ap reason_in g
+last R false n g = ap reason_in g

@@ -1,7 +1,7 @@
 -- What the query check answers, in document 01's numbers.
 --
 --   Answer               admitted, or refused by a number, or refused by a number at a step for a reason
---   said a               the answer that a case of the code's enum stands for
+--   said a               the answer that a result of the check stands for
 --   FirstBreaking q k r  the length is right, step k is the first that breaks a rule, reason r applies to it and no lower one does
 --   Kept q               the length is right and every step keeps every rule
 --   Owed q a             a is the answer that document 01 gives q
@@ -11,24 +11,25 @@
 --   CheckGives q r       THE PROMISE of `check`: r, as it stands for an answer, is the answer to q
 --
 -- Assumes nothing. NOT here: the rules (Rules) and the reasons (Reasons); that `answer_to` gives exactly what is owed (Answer.Laws).
-use Rattle.std.specs.Prelude.{ℕ, zero, suc, ◌≤◌, ◌<◌, ◌≡◌, Bool, true, false, List, length}
+use Rattle.std.specs.Prelude.{ℕ, zero, suc, ◌≤◌, ◌<◌, ◌≡◌, Bool, true, false, List, length, Result, Ok, Err}
 use Rattle.std.proofs.Math.Option.{Option, none, some}
+use Rattle.limits.specs.Number.{reason_number}
 use Rattle.meaning.specs.Refusals.{bad_length, bad_step}
 use Rattle.meaning.specs.Table.{first}
 use Rattle.query.specs.Rules.{wrong_length, steps, keeps}
 use Rattle.query.specs.Reasons.{Due, reasons}
-use Rattle.query.specs.declared.QueryAnswer.{QueryAnswer}
-use Rattle.query.specs.declared.QueryAnswer.TheVariants.{Admitted, BadLength, BadStep}
+use Rattle.query.specs.declared.QueryFault.{QueryFault}
+use Rattle.query.specs.declared.QueryFault.TheVariants.{Length, Step}
 
 pub data Answer : Type 0 where
   admitted : Answer
   refused : (number : ℕ) → Answer
   refused_at : (number step reason : ℕ) → Answer
 
-unfoldable pub said : QueryAnswer → Answer
-said Admitted = admitted
-said BadLength = refused bad_length
-said (BadStep k r) = refused_at bad_step k r
+unfoldable pub said : Result (Unit {0}) QueryFault → Answer
+said (Ok x) = admitted
+said (Err Length) = refused bad_length
+said (Err (Step k r)) = refused_at bad_step k (reason_number r)
 
 -- "With refusal 10 comes a reason, the lowest that applies to the first step at fault."
 pub record FirstBreaking (q : List ℕ) (k r : ℕ) : Type 0 where
@@ -70,5 +71,5 @@ if_wrong false rest = rest
 unfoldable pub answer_to : List ℕ → Answer
 answer_to q = if_wrong (wrong_length (length q)) (judged q)
 
-abbrev pub CheckGives : List ℕ → QueryAnswer → Type 0
+abbrev pub CheckGives : List ℕ → Result (Unit {0}) QueryFault → Type 0
 CheckGives q r = said r ≡ answer_to q

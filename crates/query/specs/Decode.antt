@@ -1,6 +1,6 @@
 -- What the bytes of a query mean: a query of crate meaning.
 --
---   axis_meant a      the axis that a named axis byte means
+--   axis_meant a      the axis of crate meaning that a named axis byte means
 --   decode_step r     the step that a record means
 --   decode_from q n s n steps of q, of which the first has s steps before it
 --   decode q         the query that the bytes q mean
@@ -8,19 +8,19 @@
 --   Shaped q         the length is right, and each step has an axis, a role and its zeros: all but what it hangs on
 --
 -- Assumes nothing. NOT here: that an admitted query is meant (Decode.Laws).
-use Rattle.std.specs.Prelude.{ℕ, zero, suc, ◌*◌, ◌≤◌, ◌<◌, ◌≡◌, true, false, List, [], ◌∷◌, T, length}
+use Rattle.std.specs.Prelude.{ℕ, zero, suc, ◌*◌, ◌≤◌, ◌<◌, ◌≡◌, true, false, List, [], ◌∷◌, T, length, Option, Some, None}
 pub use Rattle.meaning.specs.Record.{Bytes}
 use Rattle.meaning.specs.Query.{Axis, child, descendant, Step, Query, admits}
 use Rattle.query.specs.Rules.{step_bytes, most_steps, wrong_length, steps, step_of, axis_byte, role_byte}
 use Rattle.query.specs.Rules.{on_byte, name_number, is_main, is_role, axis_named, axis_rule, zero_rule}
-use Rattle.query.specs.declared.AxisByte.{AxisByte}
-use Rattle.query.specs.declared.AxisByte.TheVariants.{Child, Descendant, Unknown}
+use Rattle.query.specs.declared.Axis as declared
+use Rattle.query.specs.declared.Axis.TheVariants.{Child, Descendant}
 
--- no admitted query has an unknown axis
-unfoldable pub axis_meant : AxisByte → Axis
-axis_meant Child = child
-axis_meant Descendant = descendant
-axis_meant Unknown = child
+-- no admitted query has a byte that names no axis
+unfoldable pub axis_meant : Option declared.Axis → Axis
+axis_meant (Some Child) = child
+axis_meant (Some Descendant) = descendant
+axis_meant None = child
 
 unfoldable pub decode_step : List ℕ → Step
 decode_step r = record { axis = axis_meant (axis_named (axis_byte r)); main = is_main r; parent = on_byte r; name = name_number r }

@@ -5,11 +5,13 @@
 --   reasons q s          the table of the step that has s steps before it
 --   reasons_with r k near the same of a record alone: step k is r, and near is the nearest main-path step before it
 --   lowest rs            the number of the first line of the table rs that applies, 0 where none does
+--   checked r b          what the check of a rule answers: the reason r, unless the rule is kept
 --
 -- Assumes nothing. NOT here: that the table says what is due, and that its first line that applies has the lowest reason (Reasons.Laws); what a table is (crate
 -- meaning, Table).
-use Rattle.std.specs.Prelude.{ℕ, suc, Bool, false, not, List, [], ◌∷◌, T}
+use Rattle.std.specs.Prelude.{ℕ, suc, Bool, true, false, not, List, [], ◌∷◌, T, Result, Ok, Err}
 use Rattle.std.proofs.Math.Option.{get_or}
+use Rattle.limits.specs.declared.Reason.{Reason}
 use Rattle.meaning.specs.Query.{hangs_right}
 use Rattle.meaning.specs.Refusals.{bad_axis, bad_role, bad_hang, bad_zero, forbidden}
 use Rattle.meaning.specs.Table.{Refusal, refusal, first}
@@ -46,3 +48,7 @@ reasons_with r k near =
 -- "the lowest that applies"
 unfoldable pub lowest : List Refusal → ℕ
 lowest rs = get_or (first rs) 0
+
+abbrev pub checked : Reason → Bool → Result (Unit {0}) Reason
+checked r true = Ok tt
+checked r false = Err r

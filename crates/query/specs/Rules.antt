@@ -8,7 +8,7 @@
 --   step_of q s           the record of the step that has s steps before it: its number is s + 1
 --   axis_byte r ..        what stands in which byte of a step's record r
 --   is_main r             r is on the main path
---   axis_named b          the case that the axis byte b names
+--   axis_named b          the axis that the axis byte b names, if it names one
 --   axis_rule b           the axis byte b names an axis
 --   is_role b             the role byte b is one of the two
 --   role_rule k b         step k may have the role byte b
@@ -19,10 +19,10 @@
 --
 -- Assumes nothing. NOT here: which reason a step at fault gets (Reasons) and which answer a query (Answer), what it means (Decode), laws (Rules.Laws).
 use Rattle.std.specs.Prelude.{ℕ, zero, suc, ◌+◌, ◌*◌, ◌/◌, ◌%◌, ◌≤◌, ◌<◌, ◌≡◌, Bool, true, false, not, ◌&&◌, ◌||◌}
-use Rattle.std.specs.Prelude.{List, eqb, leb, ltb, length, get_or, take, drop}
+use Rattle.std.specs.Prelude.{Option, Some, None, is_some, List, eqb, leb, ltb, length, get_or, take, drop}
 use Rattle.meaning.specs.Query.{nearer}
-use Rattle.query.specs.declared.AxisByte.{AxisByte}
-use Rattle.query.specs.declared.AxisByte.TheVariants.{Child, Descendant, Unknown}
+use Rattle.query.specs.declared.Axis.{Axis}
+use Rattle.query.specs.declared.Axis.TheVariants.{Child, Descendant}
 
 -- "Query step, 8 bytes, at most 32 steps."
 abbrev pub step_bytes : ℕ
@@ -70,22 +70,17 @@ is_main r = eqb (role_byte r) 1
 
 -- the rules
 
-abbrev pub axis_case : Bool → Bool → AxisByte
-axis_case true isTwo = Child
-axis_case false true = Descendant
-axis_case false false = Unknown
+abbrev pub axis_case : Bool → Bool → Option Axis
+axis_case true isTwo = Some Child
+axis_case false true = Some Descendant
+axis_case false false = None
 
 -- "axis: 1 child, 2 descendant"
-abbrev pub axis_named : ℕ → AxisByte
+abbrev pub axis_named : ℕ → Option Axis
 axis_named b = axis_case (eqb b 1) (eqb b 2)
 
-abbrev pub is_known : AxisByte → Bool
-is_known Child = true
-is_known Descendant = true
-is_known Unknown = false
-
 abbrev pub axis_rule : ℕ → Bool
-axis_rule b = is_known (axis_named b)
+axis_rule b = is_some (axis_named b)
 
 -- "1 on the main path, 0 in a predicate"
 abbrev pub is_role : ℕ → Bool

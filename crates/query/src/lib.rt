@@ -1,29 +1,29 @@
 // The query check: which bytes are a query, and with which number, step and reason the others are refused.
-#![tactic(auto)]
+#![tactic(auto, unfolding(meaning::specs::Query::hangs_right, meaning::specs::Query::nearer))]
 
 ghost use Rattle.std.specs.Prelude.{◌≡◌, length};
 ghost use Rattle.meaning.specs.Query.{hangs_right, nearer};
-ghost use Rattle.query.specs.Rules.{step_bytes, wrong_length, Right, axis_named, axis_rule, role_rule, zero_rule};
-ghost use Rattle.query.specs.Reasons.{reasons_with, lowest};
+ghost use Rattle.limits.specs.Number.{reason_in};
+ghost use Rattle.query.specs.Rules.{wrong_length, Right, axis_named, axis_rule, role_rule, zero_rule};
+ghost use Rattle.query.specs.Reasons.{reasons_with, lowest, checked};
 ghost use Rattle.query.specs.Answer.{CheckGives, judged, said};
 
-// What the check answers. `said` of specs/Answer.antt gives each case its number.
-#[derive(Drop)]
-pub enum QueryAnswer {
-    // The bytes are a query.
-    Admitted,
+use limits::Reason;
+
+// Why bytes are no query. `said` of specs/Answer.antt gives each case its number.
+#[derive(Clone, Copy, PartialEq, Eq)]
+pub enum QueryFault {
     // 9: "query of 0 bytes, of a length not a multiple of 8, or over 256 bytes"
-    BadLength,
+    Length,
     // 10: "a step breaks a rule; comes with the first such step's number, and a reason": that number, and the reason
-    BadStep(u8, u8),
+    Step(u8, Reason),
 }
 
-// What an axis byte names.
-#[derive(Drop)]
-pub enum AxisByte {
+// An axis of a step.
+#[derive(Clone, Copy, PartialEq, Eq)]
+pub enum Axis {
     Child,
     Descendant,
-    Unknown,
 }
 
 // "Query step, 8 bytes, at most 32 steps"
@@ -34,11 +34,11 @@ pub const MOST_STEPS: usize = 32;
 pub const LONGEST: usize = MOST_STEPS * STEP_BYTES;
 
 // Admits a query, or refuses it with the number that applies.
-pub fn check(query: &[u8]) -> QueryAnswer
+pub fn check(query: &[u8]) -> Result<(), QueryFault>
     ensures { CheckGives query.now result }
 {
     if wrong_length(query.len()) {
-        return QueryAnswer::BadLength;
+        return Err(QueryFault::Length);
     }
     judge(query)
 }
@@ -47,36 +47,23 @@ pub fn check(query: &[u8]) -> QueryAnswer
 fn wrong_length(bytes: usize) -> bool
     ensures { result ≡ wrong_length bytes }
 {
-    if bytes == 0 {
-        return true;
-    }
-    if bytes % STEP_BYTES != 0 {
-        return true;
-    }
-    LONGEST < bytes
+    bytes == 0 || bytes % STEP_BYTES != 0 || LONGEST < bytes
 }
 
 // The answer to a query of right length: its first step that breaks a rule decides.
-fn judge(query: &[u8]) -> QueryAnswer
+fn judge(query: &[u8]) -> Result<(), QueryFault>
     requires { Right (length query.now) }
     ensures { said result ≡ judged query.now }
 {
+    // Kept: 0 where there is none is document 01's ("hangs on 0"), in `nearest` and `hangs_right`: an Option would become that number at each comparison.
     let mut near: u8 = 0;
-    let mut passed: u8 = 0;
-    let mut at: usize = 0;
-    while at < query.len() {
-        let k = passed + 1;
-        let end = at + STEP_BYTES;
-        let step = &query[at..end];
-        let reason = reason_at(step, k, near);
-        if reason != 0 {
-            return QueryAnswer::BadStep(k, reason);
-        }
+    let (steps, _) = query.as_chunks();
+    for (before, step) in steps.iter().enumerate() {
+        let k = before as u8 + 1;
+        check_step(step, k, near).map_err(|reason| QueryFault::Step(k, reason))?;
         near = nearer_main(step[1] == 1, k, near);
-        passed = k;
-        at = end;
     }
-    QueryAnswer::Admitted
+    Ok(())
 }
 
 // The nearest main-path step before the one after step k.
@@ -86,81 +73,62 @@ fn nearer_main(main: bool, k: u8, near: u8) -> u8
     if main { k } else { near }
 }
 
-// Why step k is at fault: the lowest reason that applies, 0 where none does; `near` is the nearest main-path step before it, 0 where there is none. No name and
+// Whether step k keeps every rule, or else the lowest reason that applies; `near` is the nearest main-path step before it, 0 where there is none. No name and
 // no value is forbidden yet, so nothing gives 5.
-fn reason_at(step: &[u8], k: u8, near: u8) -> u8
-    requires { length step.now ≡ step_bytes }
-    ensures { result ≡ lowest (reasons_with step.now k near) }
+fn check_step(step: &[u8; STEP_BYTES], k: u8, near: u8) -> Result<(), Reason>
+    ensures { reason_in result ≡ lowest (reasons_with step.now k near) }
 {
-    if !keeps_axis_rule(step[0]) {
-        return limits::BAD_AXIS;
-    }
-    if !keeps_role_rule(step[1], k) {
-        return limits::BAD_ROLE;
-    }
-    if !keeps_hang_rule(step[1] == 1, step[2], k, near) {
-        return limits::BAD_HANG;
-    }
-    if !keeps_zero_rule(step) {
-        return limits::BAD_ZERO;
-    }
-    0
+    check_axis(step[0])?;
+    check_role(step[1], k)?;
+    check_hang(step[1] == 1, step[2], k, near)?;
+    check_zeros(step)
 }
 
-fn keeps_axis_rule(byte: u8) -> bool
-    ensures { result ≡ axis_rule byte }
+fn check_axis(byte: u8) -> Result<(), Reason>
+    ensures { result ≡ checked Reason.Axis (axis_rule byte) }
 {
-    let axis = axis_named(byte);
-    match axis {
-        AxisByte::Child => true,
-        AxisByte::Descendant => true,
-        AxisByte::Unknown => false,
+    match axis_named(byte) {
+        Some(_) => Ok(()),
+        None => Err(Reason::Axis),
     }
 }
 
 // "axis: 1 child, 2 descendant"
-pub fn axis_named(byte: u8) -> AxisByte
+pub fn axis_named(byte: u8) -> Option<Axis>
     ensures { result ≡ axis_named byte }
 {
     match byte {
-        1 => AxisByte::Child,
-        2 => AxisByte::Descendant,
-        _ => AxisByte::Unknown,
+        1 => Some(Axis::Child),
+        2 => Some(Axis::Descendant),
+        _ => None,
     }
 }
 
 // Whether step k may have this role byte: "Step 1 is on the main path"
-fn keeps_role_rule(byte: u8, k: u8) -> bool
-    ensures { result ≡ role_rule k byte }
+fn check_role(byte: u8, k: u8) -> Result<(), Reason>
+    ensures { result ≡ checked Reason.Role (role_rule k byte) }
 {
     match byte {
-        1 => true,
-        0 => 1 < k,
-        _ => false,
+        1 => Ok(()),
+        0 if 1 < k => Ok(()),
+        _ => Err(Reason::Role),
     }
 }
 
 // Whether step k may hang on step `on`.
-fn keeps_hang_rule(main: bool, on: u8, k: u8, near: u8) -> bool
-    ensures { result ≡ hangs_right main on k near }
+fn check_hang(main: bool, on: u8, k: u8, near: u8) -> Result<(), Reason>
+    ensures { result ≡ checked Reason.Hang (hangs_right main on k near) }
 {
-    if main {
-        return on == near;
-    }
-    if 1 <= on {
-        return on < k;
-    }
-    false
+    let right = if main { on == near } else { 1 <= on && on < k };
+    if right { Ok(()) } else { Err(Reason::Hang) }
 }
 
-fn keeps_zero_rule(step: &[u8]) -> bool
-    requires { length step.now ≡ step_bytes }
-    ensures { result ≡ zero_rule step.now }
+fn check_zeros(step: &[u8; STEP_BYTES]) -> Result<(), Reason>
+    ensures { result ≡ checked Reason.Zero (zero_rule step.now) }
 {
-    if step[3] == 0 {
-        if step[6] == 0 {
-            return step[7] == 0;
-        }
+    if step[3] == 0 && step[6] == 0 && step[7] == 0 {
+        Ok(())
+    } else {
+        Err(Reason::Zero)
     }
-    false
 }

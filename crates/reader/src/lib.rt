@@ -2,31 +2,31 @@
 #![tactic(auto)]
 
 ghost use Rattle.std.specs.Prelude.{◌≡◌, ◌≤◌, length};
-ghost use Rattle.slots.specs.Slots.{room_needed};
+ghost use Rattle.limits.specs.Number.{text_of};
 ghost use Rattle.chains.specs.Index.{index_words};
 ghost use Rattle.reader.specs.Fed.{more_to_read, read_on};
-ghost use Rattle.reader.specs.Feed.{BeginGives, FeedGives, FinishGives, too_scant, whole_at};
+ghost use Rattle.reader.specs.Feed.{BeginGives, FeedGives, FinishGives, whole_at};
 
-use limits::{READER_STOPPED, SCANT, UNENDED};
+use limits::TextRefusal;
 use modes::{AFTER, Gives, Mode, Prolog, Reader};
 
 // How many bytes of output another byte of text asks for: the two events that one byte can give.
 pub const OUTPUT: usize = 16;
 
-// What a feed came to: how many bytes were taken, how many bytes of event records were written, and the refusal, or 0.
+// What a feed came to: how many bytes were taken, how many bytes of event records were written, and the refusal, if any.
 #[derive(Clone, Copy)]
 pub struct Fed {
     pub reader: Reader,
     pub taken: usize,
     pub written: usize,
-    pub refusal: u8,
+    pub refusal: Option<TextRefusal>,
 }
 
-// What the end of a text came to: the reader, stopped where the text is not a whole document, and the refusal, or 0.
+// What the end of a text came to: the reader, stopped where the text is not a whole document, and the refusal, if any.
 #[derive(Clone, Copy)]
 pub struct Finished {
     pub reader: Reader,
-    pub refusal: u8,
+    pub refusal: Option<TextRefusal>,
 }
 
 // A reader at the start of a text.
@@ -40,23 +40,18 @@ pub fn begin() -> Reader
         row: 0,
         count: 0,
         gives: Gives::Nothing,
-        refusal: 0,
+        refusal: None,
         place: 0,
     }
 }
 
 // Whether another byte is read: none was refused, one is there, and the output has room for what it can give.
-fn more(refusal: u8, at: usize, end: usize, written: usize, out: usize) -> bool
+#[tactic(auto, using(choice::specs::Tests::tests, modes::specs::Moves::refused_test), unfolding(crate::specs::Fed::more_to_read))]
+fn more(refusal: Option<TextRefusal>, at: usize, end: usize, written: usize, out: usize) -> bool
     requires { written ≤ out }
-    ensures { result ≡ more_to_read refusal at end written out }
+    ensures { result ≡ more_to_read (text_of refusal) at end written out }
 {
-    if refusal != 0 {
-        return false;
-    }
-    if end <= at {
-        return false;
-    }
-    OUTPUT <= out - written
+    refusal.is_none() && at < end && OUTPUT <= out - written
 }
 
 // Turn by turn.
@@ -65,10 +60,10 @@ fn read_on(
     text: &[u8],
     names: &[u8],
     index: &[u32],
-    room: &mut [u8],
+    room: &mut [u8; slots::ROOM],
     out: &mut [u8],
 ) -> Fed
-    requires { (length room.old ≡ room_needed) × (index_words ≤ length index.now) }
+    requires { index_words ≤ length index.now }
     ensures { (record { reader = result.reader; at = result.taken; room = room.new; out = out.new; written = result.written }
         ≡ read_on names.now index.now text.now reader room.old out.old)
         × (result.refusal ≡ result.reader.refusal) }
@@ -77,6 +72,7 @@ fn read_on(
     let mut r = reader;
     let mut at: usize = 0;
     let mut written: usize = 0;
+    // Kept: a turn takes as many bytes as its loop finds, so there is nothing that a `for` could go over (d).
     while more(r.refusal, at, text.len(), written, out.len()) {
         let gone = walk::turn(&marks, r, text, at, room);
         r = gone.reader;
@@ -91,22 +87,22 @@ fn read_on(
     }
 }
 
-// Whether less is lent than a feed needs: of room, of index, or of output.
-fn scant(room: usize, index: usize, out: usize) -> bool
-    ensures { result ≡ too_scant room index out }
+// Refused: nothing was read.
+fn untouched(reader: Reader, refusal: TextRefusal) -> Fed
+    ensures { result ≡ record { reader = reader; taken = 0; written = 0; refusal = Some refusal } }
 {
-    if room < slots::ROOM {
-        return true;
+    Fed {
+        reader,
+        taken: 0,
+        written: 0,
+        refusal: Some(refusal),
     }
-    if index < names::INDEX {
-        return true;
-    }
-    out < OUTPUT
 }
 
 // Reads a block of text. `names` and `index` are the list of names and its index, as `names::build` made it. The room is the reader's own: it is lent again to
 // the next feed as this one left it; longer room is fine, and its bytes past the needed ones are never touched. Stops at the block's end, at a byte that is
 // refused, or before a byte for whose events the output may have no room: then the rest of the block is fed with an output that is free again.
+#[tactic(auto, using(crate::specs::Feed::feeding))]
 pub fn feed(
     reader: Reader,
     text: &[u8],
@@ -118,76 +114,45 @@ pub fn feed(
     ensures { FeedGives names.now index.now text.now reader room.old out.old result
         room.new out.new }
 {
-    if scant(room.len(), index.len(), out.len()) {
-        return Fed {
-            reader,
-            taken: 0,
-            written: 0,
-            refusal: SCANT,
-        };
+    if index.len() < names::INDEX || out.len() < OUTPUT {
+        return untouched(reader, TextRefusal::Scant);
     }
-    if reader.refusal != 0 {
-        return Fed {
-            reader,
-            taken: 0,
-            written: 0,
-            refusal: READER_STOPPED,
-        };
+    let Some(needed) = room.first_chunk_mut::<{ slots::ROOM }>() else {
+        return untouched(reader, TextRefusal::Scant);
+    };
+    if reader.refusal.is_some() {
+        return untouched(reader, TextRefusal::ReaderStopped);
     }
-    read_on(reader, text, names, index, &mut room[..slots::ROOM], out)
+    read_on(reader, text, names, index, needed, out)
 }
 
 // Whether a reader at this place and in this mode has read a whole document: the document element, and then nothing that is not whole.
+#[tactic(auto, using(choice::specs::Tests::tests), unfolding(crate::specs::Feed::whole_at, crate::specs::Feed::around_only))]
 fn whole(place: u16, mode: Mode) -> bool
     ensures { result ≡ whole_at place mode }
 {
-    if place != AFTER {
-        return false;
-    }
-    match mode {
-        Mode::Prolog(_) => false,
-        Mode::First => false,
-        Mode::Around => true,
-        Mode::Data => false,
-        Mode::Bracket => false,
-        Mode::Brackets => false,
-        Mode::Markup => false,
-        Mode::Bang => false,
-        Mode::Note => false,
-        Mode::Dash => false,
-        Mode::Dashes => false,
-        Mode::Amper => false,
-        Mode::Char => false,
-        Mode::Tag => false,
-        Mode::Tagged => false,
-        Mode::Gap => false,
-        Mode::Att => false,
-        Mode::Equals => false,
-        Mode::Value => false,
-        Mode::Double => false,
-        Mode::Single => false,
-        Mode::Slash => false,
-        Mode::End => false,
-        Mode::Ended => false,
-    }
+    place == AFTER && mode == Mode::Around
 }
 
 // The end of the text: no refusal where it is a whole document.
+#[tactic(auto, using(choice::specs::Tests::tests, modes::specs::Moves::refused_test), unfolding(crate::specs::Feed::finish_answer))]
 pub fn finish(reader: Reader) -> Finished
     ensures { FinishGives reader result }
 {
-    if reader.refusal != 0 {
+    if reader.refusal.is_some() {
         return Finished {
             reader,
-            refusal: READER_STOPPED,
+            refusal: Some(TextRefusal::ReaderStopped),
         };
     }
-    let mode = reader.mode;
-    if whole(reader.place, mode) {
-        return Finished { reader, refusal: 0 };
+    if whole(reader.place, reader.mode) {
+        return Finished {
+            reader,
+            refusal: None,
+        };
     }
     Finished {
-        reader: modes::refuse(reader, UNENDED),
-        refusal: UNENDED,
+        reader: reader.refuse(TextRefusal::Unended),
+        refusal: Some(TextRefusal::Unended),
     }
 }

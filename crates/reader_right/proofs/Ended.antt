@@ -16,6 +16,7 @@ use Rattle.xml.specs.Grammar.{Ev, b0, b1, b2, Document}
 use Rattle.xml.specs.Machine.{Place, State, stands}
 use Rattle.xml.specs.Limited.{bounds}
 use Rattle.reading.specs.Exactly.{accepts_exactly}
+use Rattle.limits.specs.Number.{text_of}
 use Rattle.modes.specs.declared.Mode.{Mode}
 use Rattle.modes.specs.declared.Mode.TheVariants as mode
 use Rattle.modes.specs.declared.Prolog.{Prolog}
@@ -147,12 +148,12 @@ module _ (N X t : List ℕ) (r : Reader) (R : List ℕ) (es : List Ev) (h : Text
   asked : is_after (state_of r (used R)) ≡ whole_at r.place r.mode
   asked = fits_after (used R) r h.sound.fits
 
-  by_whole : (b : Bool) → whole_at r.place r.mode ≡ b → (finish_answer r).refusal ≡ when b 0 unended
+  by_whole : (b : Bool) → whole_at r.place r.mode ≡ b → text_of (finish_answer r).refusal ≡ when b 0 unended
   unfolding finish_answer when
-  by_whole true e = ap (λ (z : Finished). z.refusal) (when_true _ _ _ (eq-eqb r.refusal 0 h.unrefused) ∙ when_true _ _ _ e)
-  by_whole false e = ap (λ (z : Finished). z.refusal) (when_true _ _ _ (eq-eqb r.refusal 0 h.unrefused) ∙ when_false _ _ _ e)
+  by_whole true e = ap (λ (z : Finished). text_of z.refusal) (when_true _ _ _ (eq-eqb (text_of r.refusal) 0 h.unrefused) ∙ when_true _ _ _ e)
+  by_whole false e = ap (λ (z : Finished). text_of z.refusal) (when_true _ _ _ (eq-eqb (text_of r.refusal) 0 h.unrefused) ∙ when_false _ _ _ e)
 
-  whole_none : (finish_answer r).refusal ≡ 0 → whole_at r.place r.mode ≡ true
+  whole_none : text_of (finish_answer r).refusal ≡ 0 → whole_at r.place r.mode ≡ true
   unfolding when
   whole_none e = go (whole_at r.place r.mode) refl
     where
@@ -160,7 +161,7 @@ module _ (N X t : List ℕ) (r : Reader) (R : List ℕ) (es : List Ev) (h : Text
       go true w = w
       go false w = absurd (omega (arith, e, by_whole false w))
 
-  pub finish_exactly : ((finish_answer r).refusal ≡ 0) ↔ Document bounds t es
+  pub finish_exactly : (text_of (finish_answer r).refusal ≡ 0) ↔ Document bounds t es
   unfolding is_after when
   finish_exactly = (
     λ e. (accepts_exactly bounds t es).0 (h.reads ∙ ap (stands es) (after_is (state_of r (used R)) (asked ∙ whole_none e))),
@@ -170,20 +171,22 @@ module _ (N X t : List ℕ) (r : Reader) (R : List ℕ) (es : List Ev) (h : Text
   )
 
   -- 44 is the only other answer, and stops the reader
-  pub finish_stops : ((finish_answer r).refusal ≡ 0 → ⊥) → ((finish_answer r).refusal ≡ unended) × ((finish_answer r).reader.refusal ≡ unended)
+  pub finish_stops :
+      (text_of (finish_answer r).refusal ≡ 0 → ⊥)
+      → (text_of (finish_answer r).refusal ≡ unended) × (text_of (finish_answer r).reader.refusal ≡ unended)
   unfolding finish_answer when
   finish_stops wrong = go (whole_at r.place r.mode) refl
     where
-      go : (b : Bool) → whole_at r.place r.mode ≡ b → ((finish_answer r).refusal ≡ unended) × ((finish_answer r).reader.refusal ≡ unended)
+      go : (b : Bool) → whole_at r.place r.mode ≡ b → (text_of (finish_answer r).refusal ≡ unended) × (text_of (finish_answer r).reader.refusal ≡ unended)
       go true e = absurd (wrong (by_whole true e))
       go false e =
-          let z = when_true _ _ _ (eq-eqb r.refusal 0 h.unrefused) ∙ when_false _ _ _ e in
-          (by_whole false e, ap (λ (a : Finished). a.reader.refusal) z)
+          let z = when_true _ _ _ (eq-eqb (text_of r.refusal) 0 h.unrefused) ∙ when_false _ _ _ e in
+          (by_whole false e, ap (λ (a : Finished). text_of a.reader.refusal) z)
 
-  pub finish_either : ((finish_answer r).refusal ≡ 0) ⊎ ((finish_answer r).refusal ≡ unended)
+  pub finish_either : (text_of (finish_answer r).refusal ≡ 0) ⊎ (text_of (finish_answer r).refusal ≡ unended)
   unfolding when
   finish_either = go (whole_at r.place r.mode) refl
     where
-      go : (b : Bool) → whole_at r.place r.mode ≡ b → ((finish_answer r).refusal ≡ 0) ⊎ ((finish_answer r).refusal ≡ unended)
+      go : (b : Bool) → whole_at r.place r.mode ≡ b → (text_of (finish_answer r).refusal ≡ 0) ⊎ (text_of (finish_answer r).refusal ≡ unended)
       go true e = inl (by_whole true e)
       go false e = inr (by_whole false e)

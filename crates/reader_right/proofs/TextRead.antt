@@ -17,13 +17,14 @@ use Rattle.std.proofs.Math.Dec.{leb}
 use Rattle.std.proofs.Math.ListN.{length, take, drop}
 use borrow.Author.Tests.{eq-eqb, leb-true, leb-false, ltb-true, ltb-false}
 use Rattle.choice.specs.When.{when_true, when_false, never}
-use Rattle.xml.specs.Refused.{scant}
+use Rattle.limits.specs.declared.TextRefusal.TheVariants.{Scant}
 use Rattle.xml.specs.Grammar.{Ev}
 use Rattle.xml.specs.Machine.{State, stopped, stands, given, run}
 use Rattle.xml.specs.Numbered.{numbered}
 use Rattle.xml.specs.Limited.{bounds}
 use Rattle.reading.specs.Cut.{cut_anywhere, onward}
 use Rattle.names.specs.Number.{number_of}
+use Rattle.limits.specs.Number.{text_of}
 use Rattle.modes.specs.declared.Reader.{Reader}
 use Rattle.modes.specs.Moves.{open_at}
 use Rattle.slots.specs.Slots.{room_needed}
@@ -61,20 +62,20 @@ module _ (N X t : List ℕ) (r : Reader) (R : List ℕ) (es : List Ev) (u out : 
     pub same_length : length c.room ≡ length R
 
   pub data FeedCame (c : Came) : Type 0 where
-    lent_scant : too_scant (length R) (length X) (length out) ≡ true → c ≡ untouched scant r R out → FeedCame c
+    lent_scant : too_scant (length R) (length X) (length out) ≡ true → c ≡ untouched Scant r R out → FeedCame c
     went :
         (fs : List Ev)
-        → c.refusal ≡ 0
+        → text_of c.refusal ≡ 0
         → TextRead N X (t ++ take c.taken u) c.reader c.room (es ++ fs)
         → (c.taken ≡ length u) ⊎ (length out < c.written + 16)
         → Kept fs c
         → FeedCame c
     refused :
         (fs : List Ev) (b : ℕ) (w : List ℕ)
-        → 0 < c.refusal
-        → c.reader.refusal ≡ c.refusal
+        → 0 < text_of c.refusal
+        → text_of c.reader.refusal ≡ text_of c.refusal
         → drop c.taken u ≡ b ∷ w
-        → run bounds ((t ++ take c.taken u) ++ (b ∷ [])) State.start ≡ stopped (es ++ fs) c.refusal (b ∷ [])
+        → run bounds ((t ++ take c.taken u) ++ (b ∷ [])) State.start ≡ stopped (es ++ fs) (text_of c.refusal) (b ∷ [])
         → Kept fs c
         → FeedCame c
 
@@ -113,7 +114,7 @@ module _ (N X t : List ℕ) (r : Reader) (R : List ℕ) (es : List Ev) (u out : 
           (read_within N X u (suc (length u)) (begun_with r (used R) out) (omega arith))
 
       -- where nothing was refused, the block is taken or the output is full
-      why_ended : g.reader.refusal ≡ 0 → g.at ≤ length u → g.written ≤ length out → length g.out ≡ length out
+      why_ended : text_of g.reader.refusal ≡ 0 → g.at ≤ length u → g.written ≤ length out → length g.out ≡ length out
           → (g.at ≡ length u) ⊎ (length out < g.written + 16)
       unfolding more_to_read
       why_ended z inside most same = go (leb (length u) g.at) (leb 16 (length g.out - g.written)) refl refl
@@ -173,7 +174,7 @@ module _ (N X t : List ℕ) (r : Reader) (R : List ℕ) (es : List Ev) (u out : 
 
     pub feed_on :
         too_scant (length R) (length X) (length out) ≡ false → 0 < length u
-        → (0 < (feed_answer N X u r R out).taken) ⊎ (0 < (feed_answer N X u r R out).refusal)
+        → (0 < (feed_answer N X u r R out).taken) ⊎ (0 < text_of (feed_answer N X u r R out).refusal)
     unfolding records_of numbered
     feed_on lent some = go (feed_answer N X u r R out) feed_came
       where
@@ -184,12 +185,12 @@ module _ (N X t : List ℕ) (r : Reader) (R : List ℕ) (es : List Ev) (u out : 
             let w = ap (λ gs. length (records_in (number_of N X) gs)) (sym none) ∙ k.wrote.size in
             omega (arith, w, l, (enough (length R) (length X) (length out) lent).out')
 
-        go : (c : Came) → FeedCame c → (0 < c.taken) ⊎ (0 < c.refusal)
+        go : (c : Came) → FeedCame c → (0 < c.taken) ⊎ (0 < text_of c.refusal)
         go c (lent_scant e f) = never (sym lent ∙ e)
         go c (went fs z x (inl e) k) = inl (omega arith)
         go c (went fs z x (inr l) k) = by_taken (ltb 0 c.taken) refl
           where
-            by_taken : (b : Bool) → ltb 0 c.taken ≡ b → (0 < c.taken) ⊎ (0 < c.refusal)
+            by_taken : (b : Bool) → ltb 0 c.taken ≡ b → (0 < c.taken) ⊎ (0 < text_of c.refusal)
             by_taken true e = inl (ltb-true _ _ e)
             by_taken false e = let m : c.taken ≤ 0 = ltb-false _ _ e in absurd (full c fs (omega arith) x k l)
         go c (refused fs b w l q j e k) = inr l

@@ -22,10 +22,11 @@ use Rattle.xml.specs.Sentences.{Begins, Spent, RefusedAt}
 use Rattle.xml.specs.Table.{Refusal}
 use Rattle.xml.specs.Numbered.{numbered}
 use Rattle.listed.specs.Lines.{lines_of}
-use Rattle.listed.specs.declared.Listing.{Listing}
+use Rattle.listed.specs.Listed.{Listing}
 use Rattle.names.specs.Answer.{BuildGives}
 use Rattle.names.specs.First.{first_place}
 use Rattle.names.specs.Number.{number_of}
+use Rattle.limits.specs.Number.{text_of}
 use Rattle.modes.specs.declared.Reader.{Reader}
 use Rattle.slots.specs.Slots.{room_needed}
 use Rattle.reader.specs.declared.Fed as answered
@@ -43,7 +44,7 @@ pub data Fed (N X : List ℕ) : List ℕ → Reader → List ℕ → List ℕ �
       → Bytes u
       → used S ≡ used R
       → FeedGives N X u r S out c S' out'
-      → c.refusal ≡ 0
+      → text_of c.refusal ≡ 0
       → Fed N X (t ++ take c.taken u) c.reader S' (bs ++ take c.written out')
   -- "less room is lent than a call needs": nothing is changed
   lent_scant :
@@ -88,20 +89,22 @@ pub record Refuses (N X t u bs : List ℕ) (c : answered.Fed) (out' : List ℕ) 
   pub b : ℕ
   pub rest : List ℕ
   pub byte : drop c.taken u ≡ b ∷ rest
-  pub refused_at_lem : RefusedAt bounds c.refusal (stopped_at t u c) b
+  pub refused_at_lem : RefusedAt bounds (text_of c.refusal) (stopped_at t u c) b
   pub earliest : Earliest (stopped_at t u c) b
-  pub sentence : ((c.refusal ≡ 30) × ((q : ℕ) → Refusal bounds q (stopped_at t u c) b → ⊥)) ⊎ Refusal bounds c.refusal (stopped_at t u c) b
+  pub sentence : ((text_of c.refusal ≡ 30) × ((q : ℕ) → Refusal bounds q (stopped_at t u c) b → ⊥)) ⊎ Refusal bounds (text_of c.refusal) (stopped_at t u c) b
   pub events : Events N X (stopped_at t u c) (bs ++ take c.written out')
-  pub stops : c.reader.refusal ≡ c.refusal
+  pub stops : text_of c.reader.refusal ≡ text_of c.refusal
 
 pub record Promised (N X : List ℕ) : Type 0 where
   -- what is written so far are the events so far, and the text so far begins a document or is spent
   pub so_far : {t R bs : List ℕ} {r : Reader} → Fed N X t r R bs → Events N X t bs × (Begins bounds t ⊎ Spent bounds t)
   -- accepted exactly: the end of the text is not refused exactly if it is a document; else it is refused with 44, and the reader is stopped
-  pub accepts : {t R bs : List ℕ} {r : Reader} {f : Finished} → Fed N X t r R bs → FinishGives r f → (f.refusal ≡ 0) ↔ ((es : List Ev) × Document bounds t es)
+  pub accepts :
+      {t R bs : List ℕ} {r : Reader} {f : Finished} → Fed N X t r R bs → FinishGives r f
+      → (text_of f.refusal ≡ 0) ↔ ((es : List Ev) × Document bounds t es)
   pub unended_else :
-      {t R bs : List ℕ} {r : Reader} {f : Finished} → Fed N X t r R bs → FinishGives r f → (f.refusal ≡ 0 → ⊥)
-      → (f.refusal ≡ 44) × (f.reader.refusal ≡ 44)
+      {t R bs : List ℕ} {r : Reader} {f : Finished} → Fed N X t r R bs → FinishGives r f → (text_of f.refusal ≡ 0 → ⊥)
+      → (text_of f.refusal ≡ 44) × (text_of f.reader.refusal ≡ 44)
   -- and after the events of a document no session refuses its finish
   pub never_unfinished :
       {t R bs : List ℕ} {r : Reader} {es : List Ev} (q : Query) (n : ℕ) → Fed N X t r R bs → Document bounds t es
@@ -109,10 +112,10 @@ pub record Promised (N X : List ℕ) : Type 0 where
       → ⊥
   -- a feed that is not refused takes its block, or fills the output;  of a block that is not empty it takes a byte or refuses one
   pub taken :
-      {t u R bs out out' : List ℕ} {r : Reader} {c : answered.Fed} → Feeds N X t u r R bs out c out' → c.refusal ≡ 0
+      {t u R bs out out' : List ℕ} {r : Reader} {c : answered.Fed} → Feeds N X t u r R bs out c out' → text_of c.refusal ≡ 0
       → (c.taken ≡ length u) ⊎ (length out < c.written + 16)
   pub goes_on :
-      {t u R bs out out' : List ℕ} {r : Reader} {c : answered.Fed} → Feeds N X t u r R bs out c out' → 0 < length u → (0 < c.taken) ⊎ (0 < c.refusal)
+      {t u R bs out out' : List ℕ} {r : Reader} {c : answered.Fed} → Feeds N X t u r R bs out c out' → 0 < length u → (0 < c.taken) ⊎ (0 < text_of c.refusal)
   -- the output behind what is written, and the room past its needed part, are as they were
   pub touches :
       {t u R bs out out' : List ℕ} {r : Reader} {c : answered.Fed} (x : Feeds N X t u r R bs out c out')
@@ -122,23 +125,23 @@ pub record Promised (N X : List ℕ) : Type 0 where
       {t u R bs out out' : List ℕ} {r : Reader} {c : answered.Fed} {es : List Ev} (v : List ℕ)
       → Feeds N X t u r R bs out c out'
       → Document bounds (t ++ (u ++ v)) es
-      → c.refusal ≡ 0
+      → text_of c.refusal ≡ 0
   -- refused exactly: at a byte that is refused, and at no other; a feed goes no further than up to such a byte
   pub refuses :
-      {t u R bs out out' : List ℕ} {r : Reader} {c : answered.Fed} → Feeds N X t u r R bs out c out' → (c.refusal ≡ 0 → ⊥) → Refuses N X t u bs c out'
+      {t u R bs out out' : List ℕ} {r : Reader} {c : answered.Fed} → Feeds N X t u r R bs out c out' → (text_of c.refusal ≡ 0 → ⊥) → Refuses N X t u bs c out'
   pub no_further :
       {t u R bs out out' : List ℕ} {r : Reader} {c : answered.Fed} (v w : List ℕ) (b q : ℕ)
       → Feeds N X t u r R bs out c out'
       → u ≡ v ++ (b ∷ w)
       → RefusedAt bounds q (t ++ v) b
-      → (c.taken ≤ length v) × ((c.refusal ≡ 0 → ⊥) → (c.taken ≡ length v) × (c.refusal ≡ q))
+      → (c.taken ≤ length v) × ((text_of c.refusal ≡ 0 → ⊥) → (c.taken ≡ length v) × (text_of c.refusal ≡ q))
   -- a stopped reader takes nothing
   pub stopped :
       {S' out' : List ℕ} {r : Reader} {c : answered.Fed} (u S out : List ℕ)
       → FeedGives N X u r S out c S' out'
       → too_scant (length S) (length X) (length out) ≡ false
-      → (r.refusal ≡ 0 → ⊥)
-      → (c.refusal ≡ 46) × (c.reader ≡ r) × (c.taken ≡ 0) × (c.written ≡ 0) × (S' ≡ S) × (out' ≡ out)
+      → (text_of r.refusal ≡ 0 → ⊥)
+      → (text_of c.refusal ≡ 46) × (c.reader ≡ r) × (c.taken ≡ 0) × (c.written ≡ 0) × (S' ≡ S) × (out' ≡ out)
   -- by an index that a build made the numbers are the first places in the list
   pub numbers_first :
       (x : List ℕ) (l : Listing) → BuildGives N x X l → l.refusal ≡ 0 → (es : List Ev)

@@ -1,33 +1,35 @@
 -- The state after a read, over what the calls answered.
 --
---   read_nothing, read_some      a read that gave nothing, and one that gave bytes
+--   left_over      what is left over has moved to the start
+--   read_so        the state after a read
 --
 -- What is large is given explicitly. Assumes nothing.
-use Prim.Native.Nat.{ℕ, ◌+◌, ◌-◌, ◌<◌}
-use native.Mathlib.Nat.{sub-zero}
-use native.Mathlib.Omega.{arith}
-use mathlib.Core.Path.{◌≡◌, refl, sym, ap, ◌∙◌}
-use mathlib.Core.Bool.{true, false}
-use mathlib.Core.List.{List, ◌++◌}
-use lib.ListN.{length, take, drop, length-drop}
-use lib.Seq.{take-add, length-take-le, length-sets}
-use borrow.Author.Tests.{eq-eqb, ne_eqb}
-use Rattle.choice.specs.When.{when_yes, when_no, never}
-use Rattle.lines.specs.Put.{Put}
-use Rattle.lines.proofs.Put.Laws.{put_taken}
+use Rattle.std.specs.Prelude.{ℕ, ◌+◌, ◌-◌, ◌<◌, ◌≡◌, refl, List, ◌++◌, Option, eqb, length, take, drop}
+use Rattle.std.proofs.Common.{arith, sym, ap, ◌∙◌, eqb-true, length-drop, length-take-le, take_at}
+use Rattle.std.proofs.Math.Nat.{sub-zero}
+use Rattle.std.proofs.Math.Seq.{take-add}
+use Rattle.std.specs.List.{copy_within}
+use Rattle.choice.specs.When.{when}
+use Rattle.limits.specs.declared.Refusal.{Refusal}
+use Rattle.limits.specs.Number.{fault_of}
 use Rattle.system.specs.declared.File.{File}
 use Rattle.system.specs.Marks.{ReadAt}
 use Rattle.reads.specs.declared.State.{State}
 use Rattle.reads.specs.State.{unread, UnreadWithin, leftover_of, ReadMore}
 
 module _ (file : File) (s : State) (input moved_down input' : List ℕ) (r : ℕ) (w : UnreadWithin s (length input))
-    (moved : Put input 0 (unread s input) moved_down (s.end - s.from)) (got : ReadAt file (s.end - s.from) moved_down input' r)
-    (room : s.end - s.from < length input) where
+    (moved : moved_down ≡ copy_within input s.from s.end 0) (long : length moved_down ≡ length input)
+    (got : ReadAt file (s.end - s.from) moved_down input' r) (room : s.end - s.from < length input) where
   abbrev left : ℕ
   left = s.end - s.from
 
   abbrev bytes : List ℕ
   bytes = take r (drop left input')
+
+  left_over : take left moved_down ≡ unread s input
+  left_over =
+      ap (take left) moved
+      ∙ take_at (unread s input) _ left (length-take-le left (drop s.from input) (omega (arith, w.inside, length-drop s.from input)))
 
   so_many : length bytes ≡ r
   so_many = length-take-le r (drop left input') (omega (arith, got.within, length-drop left input'))
@@ -36,31 +38,13 @@ module _ (file : File) (s : State) (input moved_down input' : List ℕ) (r : ℕ
   behind =
       ap (λ (k : ℕ). take k input') (sub-zero (left + r))
       ∙ take-add left r input'
-      ∙ ap (λ (x : List ℕ). x ++ bytes) (got.kept ∙ put_taken moved (omega (arith, w.inside)))
+      ∙ ap (λ (x : List ℕ). x ++ bytes) (got.kept ∙ left_over)
 
-  pub read_nothing :
-      r ≡ 0 → (x : ℕ) → x ≡ leftover_of left →
-      ReadMore file s input (record { session = s.session; from = 0; end = left; taken = s.taken; refusal = x; ended = true; written = s.written }) input'
-  read_nothing z x e =
-      let all : left - 0 ≡ left + r - 0 = omega arith in
-      record {
-        bytes = bytes;
-        given = got.given;
-        behind = ap (λ (k : ℕ). take k input') all ∙ behind;
-        within = record { forward = omega arith; inside = omega (arith, got.within) };
-        session_same = refl;
-        taken_same = refl;
-        written_same = refl;
-        ended_so = sym (eq-eqb (length bytes) 0 (so_many ∙ z));
-        refused_so = when_yes true x (leftover_of left) 0 refl e;
-        over = λ t. got.over z (omega (arith, room, ap length moved.text, length-sets input 0 (unread s input)));
-      }
-
-  pub read_some :
-      (r ≡ 0 → ⊥) →
+  pub read_so :
+      (x : Option Refusal) → fault_of x ≡ when (eqb r 0) (leftover_of left) 0 →
       ReadMore file s input
-      (record { session = s.session; from = 0; end = left + r; taken = s.taken; refusal = 0; ended = false; written = s.written }) input'
-  read_some z =
+      (record { session = s.session; from = 0; end = left + r; taken = s.taken; refusal = x; ended = eqb r 0; written = s.written }) input'
+  read_so x e =
       record {
         bytes = bytes;
         given = got.given;
@@ -69,7 +53,7 @@ module _ (file : File) (s : State) (input moved_down input' : List ℕ) (r : ℕ
         session_same = refl;
         taken_same = refl;
         written_same = refl;
-        ended_so = sym (ne_eqb (length bytes) 0 (λ e. z (sym so_many ∙ e)));
-        refused_so = when_no false 0 (leftover_of left) 0 refl refl;
-        over = λ t. never t;
+        ended_so = ap (λ (n : ℕ). eqb n 0) (sym so_many);
+        refused_so = e;
+        over = λ t. got.over (eqb-true r 0 t) (omega (arith, room, long));
       }

@@ -1,10 +1,11 @@
 // How far the stream is worked on, and one read more, behind what is left over.
 #![tactic(auto)]
 
-ghost use Rattle.std.specs.Prelude.{◌≡◌, ◌+◌, ◌-◌, ◌≤◌, ◌<◌, length, take, drop};
-ghost use Rattle.lines.specs.Put.{Put};
+ghost use Rattle.std.specs.Prelude.{◌≡◌, ◌-◌, ◌<◌, length};
+ghost use Rattle.limits.specs.Number.{fault_of};
 ghost use Rattle.reads.specs.State.{UnreadWithin, leftover_of, ReadMore};
 
+use limits::Refusal;
 use session::Session;
 use system::File;
 
@@ -17,68 +18,39 @@ pub struct State {
     pub end: usize,
     // How many events are taken.
     pub taken: u64,
-    // The refusal at which the program stops, or 0.
-    pub refusal: u8,
+    // The refusal at which the program stops.
+    pub refusal: Option<Refusal>,
     // Whether a read has given nothing.
     pub ended: bool,
     // Whether all that was handed to standard output was taken.
     pub written: bool,
 }
 
-// Moves the `left` bytes from `from` on to the start.
-fn move_down(input: &mut [u8], from: usize, left: usize)
-    requires { from + left ≤ length input.old }
-    ensures { Put input.old 0 (take left (drop from input.old)) input.new left }
-{
-    let mut i: usize = 0;
-    while i < left {
-        let byte = input[from + i];
-        input[i] = byte;
-        i += 1;
-    }
-}
-
 // "Leftover bytes under 8 are a bad record."
-fn leftover(left: usize) -> u8
-    ensures { result ≡ leftover_of left }
+fn leftover(left: usize) -> Option<Refusal>
+    ensures { fault_of result ≡ leftover_of left }
 {
     if left == 0 {
-        return 0;
+        None
+    } else {
+        Some(Refusal::BadRecord)
     }
-    limits::BAD_RECORD
 }
 
-// Reads once, behind what is left over.
+// Reads once, behind what is left over, which moves to the start.
 pub fn read_more(file: &File, state: State, input: &mut [u8]) -> State
     requires { UnreadWithin state (length input.old) × (state.end - state.from < length input.old) }
     ensures { ReadMore file.now state input.old result input.new }
 {
-    let from = state.from;
-    let left = state.end - from;
-    move_down(input, from, left);
+    let left = state.end - state.from;
+    input.copy_within(state.from..state.end, 0);
     let more = system::read_at(file, input, left);
-    let session = state.session;
-    let taken = state.taken;
-    let written = state.written;
-    if more == 0 {
-        let refusal = leftover(left);
-        return State {
-            session,
-            from: 0,
-            end: left,
-            taken,
-            refusal,
-            ended: true,
-            written,
-        };
-    }
+    let ended = more == 0;
     State {
-        session,
         from: 0,
         end: left + more,
-        taken,
-        refusal: 0,
-        ended: false,
-        written,
+        refusal: if ended { leftover(left) } else { None },
+        ended,
+        ..state
     }
 }

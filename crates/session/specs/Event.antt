@@ -2,6 +2,7 @@
 --
 --   Done                     an event's answer, the next session, and all that was lent, byte for byte
 --   refused n s E N out      a refusal beside the session s and all that was lent
+--   session_of kept n        the session that keeps `kept` of its query and has the numbers n
 --   session_numbers s, with_numbers s n       the session's numbers; the same session with the numbers n
 --   stopped_by r s            the session s after the refusal r: "The refused call changes nothing but this"
 --   answer_by r k             the answer of an event that was refused with r, or, where that is 0, handed out k nodes
@@ -14,11 +15,13 @@
 --
 -- Assumes nothing. NOT here: what an event does to numbers and room (crates offer, stop, step), which bytes are which event (crate meaning, Record).
 pub mod Laws
-use Rattle.std.specs.Prelude.{ℕ, ◌≡◌, not, ◌||◌, List, eqb}
+use Rattle.std.specs.Prelude.{ℕ, ◌≡◌, not, ◌||◌, List, Result, Ok, Err, eqb}
 use mir.Val.{bool_byte}
 use Rattle.choice.specs.When.{when}
 use Rattle.meaning.specs.Answer as meaning
-use Rattle.meaning.specs.Refusals.{already_stopped, unfinished, stops}
+use Rattle.meaning.specs.Refusals.{stops}
+use Rattle.limits.specs.declared.Refusal.{Refusal}
+use Rattle.limits.specs.declared.Refusal.TheVariants.{Stopped, Unfinished}
 use Rattle.numbers.specs.Numbers as numbers
 use Rattle.numbers.specs.Numbers.{Numbers}
 use Rattle.plan_bytes.specs.Kept.{kept_in}
@@ -29,8 +32,7 @@ use Rattle.session.specs.declared.Session.{Session}
 use Rattle.session.specs.declared.Answer.{Answer}
 use Rattle.session.specs.declared.Answer.TheVariants.{Refused, Taken}
 use Rattle.session.specs.declared.Next.{Next}
-use Rattle.session.specs.declared.Finish as finished
-use Rattle.session.specs.declared.Finish.TheVariants as finishing
+use Rattle.session.specs.declared.Counts.{Counts}
 use Rattle.session.specs.Told.{told, ended}
 
 pub record Done : Type 0 where
@@ -46,10 +48,10 @@ refused n s E N out = record { answer = Refused n; session = s; elements = E; no
 abbrev pub session_numbers : Session → Numbers
 session_numbers s = numbers.numbers_of s.depth s.held s.opened s.handed (bool_byte s.ended) (bool_byte s.stopped)
 
-abbrev pub with_numbers : Session → Numbers → Session
-with_numbers s n =
+abbrev pub session_of : List ℕ → Numbers → Session
+session_of kept n =
     record {
-      kept = s.kept;
+      kept = kept;
       depth = n.depth;
       held = n.held;
       opened = n.opened;
@@ -57,6 +59,9 @@ with_numbers s n =
       ended = not (eqb n.ended 0);
       stopped = not (eqb n.stopped 0);
     }
+
+abbrev pub with_numbers : Session → Numbers → Session
+with_numbers s n = session_of s.kept n
 
 abbrev pub stopped_by : ℕ → Session → Session
 stopped_by r s =
@@ -104,9 +109,8 @@ abbrev pub EventGives : Session → List ℕ → List ℕ → List ℕ → List 
 EventGives s bytes E N out r E' N' out' = told_as r.answer r.session E' N' out' ≡ told_of (event s bytes E N out)
 
 -- "every later event and every later finish gets 11"; "8: no document element yet, or it is still open"
-unfoldable pub finish : Session → finished.Finish
-finish s =
-    when s.stopped (finishing.Refused already_stopped) (when s.ended (finishing.Ended s.opened s.handed) (finishing.Refused unfinished))
+unfoldable pub finish : Session → Result Counts Refusal
+finish s = when s.stopped (Err Stopped) (when s.ended (Ok (record { opened = s.opened; handed = s.handed })) (Err Unfinished))
 
-abbrev pub FinishGives : Session → finished.Finish → Type 0
+abbrev pub FinishGives : Session → Result Counts Refusal → Type 0
 FinishGives s r = ended r ≡ ended (finish s)

@@ -10,6 +10,7 @@
 -- Assumes nothing. NOT here: that steps on the room that is needed are single events (Run.Laws).
 pub mod Laws
 use Rattle.std.specs.Prelude.{ℕ, ◌/◌, ◌≡◌, List, length}
+use Rattle.limits.specs.Number.{fault_of}
 use Rattle.plan_bytes.specs.Kept.{kept_in}
 use Rattle.feed.specs.Fed.{Came, Fed, fed}
 use Rattle.feed.specs.Fed.Across.{all_across}
@@ -44,7 +45,7 @@ unfoldable pub event_at : Housed → List ℕ → List ℕ → Came Housed
 event_at l bytes out = came_as (event l.session bytes l.elements l.nodes out)
 
 abbrev pub ran : Ran → List ℕ → List ℕ → List ℕ → Fed Housed
-ran r E N out = record { seat = housed r.session E N; taken = r.taken; listed = r.listed; refusal = r.refusal; out = out }
+ran r E N out = record { seat = housed r.session E N; taken = r.taken; listed = r.listed; refusal = fault_of r.refusal; out = out }
 
 unfoldable pub run_within : Session → List ℕ → List ℕ → List ℕ → List ℕ → Fed Housed
 run_within s es E N out =

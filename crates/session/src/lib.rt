@@ -3,19 +3,25 @@
 #![tactic(auto)]
 
 ghost use Rattle.std.specs.Prelude.{◌≡◌, ◌*◌, ◌≤◌, length};
-ghost use Rattle.meaning.specs.Limits.{elements_needed, nodes_needed};
-ghost use Rattle.numbers.specs.Numbers.{numbers_room, numbers_in};
-ghost use Rattle.session.specs.Begin.{fresh, BeginGives};
-ghost use Rattle.session.specs.Event.{session_numbers, with_numbers, answer_by, EventGives, FinishGives};
+ghost use Rattle.numbers.specs.Numbers.{numbers_in};
+ghost use Rattle.limits.specs.Number.{fault_in};
+ghost use Rattle.step.specs.Step.{listed_in};
+ghost use Rattle.session.specs.Begin.{fresh, said, start_answer, BeginGives};
+ghost use Rattle.session.specs.Event.{session_of, session_numbers, answer_by, EventGives, FinishGives};
 ghost use Rattle.session.specs.Run.{ran, run_within, RunGives};
 
+use element::Elements;
+use limits::Refusal;
+use node::Nodes;
+use numbers::Numbers;
 use plan::Plan;
-use query::QueryAnswer;
+use plan_bytes::Kept;
+use query::QueryFault;
 
 #[derive(Clone, Copy)]
 pub struct Session {
     // What is kept of the query (crate plan_bytes).
-    pub kept: [u8; 288],
+    pub kept: Kept,
     // How many elements are open, and how many nodes wait.
     pub depth: u32,
     pub held: u32,
@@ -29,6 +35,7 @@ pub struct Session {
 }
 
 // "An event's answer is either a refusal number or a count of nodes handed out"
+// Kept: a form that docs/SCOPE.md names, Refused with its number and Taken with the count.
 #[derive(Drop)]
 pub enum Answer {
     Refused(u8),
@@ -43,26 +50,24 @@ pub struct Next {
 }
 
 // "Finish answers the number of nodes opened and the number handed out"
-#[derive(Drop)]
-pub enum Finish {
-    Refused(u8),
-    Ended(u32, u32),
+#[derive(Clone, Copy)]
+pub struct Counts {
+    pub opened: u32,
+    pub handed: u32,
 }
 
-// The answer to begin: the query's, or that the lent room is too small.
-#[derive(Drop)]
-pub enum Start {
-    Begun,
+// Why no session begins: the lent room is too small, or the query is at fault.
+#[derive(Clone, Copy)]
+pub enum StartFault {
     ShortRoom,
-    BadLength,
-    // The number of the first step at fault, and the reason.
-    BadStep(u8, u8),
+    Query(QueryFault),
 }
 
 // "beside a refused query's number stands one fixed blank session"
+// Kept: the session beside the answer, since docs/SCOPE.md owes one beside a refusal too.
 #[derive(Drop)]
 pub struct Begun {
-    pub answer: Start,
+    pub answer: Result<(), StartFault>,
     pub session: Session,
 }
 
@@ -74,8 +79,8 @@ pub struct Ran {
     pub taken: usize,
     // How many list records were written, from the start of the buffer.
     pub listed: usize,
-    // The refusal's number, or 0.
-    pub refusal: u8,
+    // Why the next event was refused, if it was.
+    pub refusal: Option<Refusal>,
 }
 
 // A session at the start of its stream.
@@ -84,7 +89,7 @@ fn fresh(plan: Plan) -> Session
 {
     let kept = plan_bytes::pack(plan);
     Session {
-        kept: kept,
+        kept,
         depth: 0,
         held: 0,
         opened: 0,
@@ -94,52 +99,41 @@ fn fresh(plan: Plan) -> Session
     }
 }
 
+// Whether a session can begin: "15 comes directly after 1 and before all others".
+fn check(query: &[u8], elements: &[u8], nodes: &[u8]) -> Result<(), StartFault>
+    ensures { said result ≡ start_answer query.now elements.now nodes.now }
+{
+    if lent::check_room(elements.len(), nodes.len()).is_err() {
+        return Err(StartFault::ShortRoom);
+    }
+    query::check(query).map_err(StartFault::Query)
+}
+
 // A session for a query. Nothing is asked of the content of the lent room, and none of it is read or written.
 pub fn begin(query: &[u8], elements: &[u8], nodes: &[u8]) -> Begun
     ensures { BeginGives query.now elements.now nodes.now result }
 {
-    let blank = fresh(plan::plan_of(&query[..0]));
-    let short = lent::refuse_room(elements.len(), nodes.len());
-    if short != 0 {
-        return Begun {
-            answer: Start::ShortRoom,
-            session: blank,
-        };
-    }
-    let answer = query::check(query);
-    match answer {
-        QueryAnswer::Admitted => {
-            let session = fresh(plan::plan_of(query));
-            Begun {
-                answer: Start::Begun,
-                session: session,
-            }
-        }
-        QueryAnswer::BadLength => Begun {
-            answer: Start::BadLength,
-            session: blank,
-        },
-        QueryAnswer::BadStep(k, reason) => Begun {
-            answer: Start::BadStep(k, reason),
-            session: blank,
-        },
-    }
+    let answer = check(query, elements, nodes);
+    let steps = if answer.is_ok() { query } else { &query[..0] };
+    let session = fresh(plan::plan_of(steps));
+    Begun { answer, session }
 }
 
 // An event's answer, by what it came to.
-fn answered(refusal: u8, listed: u32) -> Answer
-    ensures { result ≡ answer_by refusal listed }
-{
-    if refusal != 0 {
-        return Answer::Refused(refusal);
+impl From<Result<u32, Refusal>> for Answer {
+    ghost from_gives = { λ r a. a ≡ answer_by (fault_in r) (listed_in r) };
+
+    fn from(r: Result<u32, Refusal>) -> Answer {
+        match r {
+            Ok(listed) => Answer::Taken(listed),
+            Err(refusal) => Answer::Refused(refusal.number()),
+        }
     }
-    Answer::Taken(listed)
 }
 
 impl Session {
     // The session's numbers in bytes.
-    fn lay(self, numbers: &mut [u8])
-        requires { length numbers.old ≡ numbers_room }
+    pub fn lay(self, numbers: &mut Numbers)
         ensures { numbers_in numbers.new ≡ session_numbers self }
     {
         numbers::write(
@@ -153,20 +147,18 @@ impl Session {
         numbers::write_stop(numbers, self.stopped as u32);
     }
 
-    // The same session with the numbers in bytes.
-    fn with(self, numbers: &[u8]) -> Session
-        requires { length numbers.now ≡ numbers_room }
-        ensures { result ≡ with_numbers self (numbers_in numbers.now) }
+    // A session with what it keeps of its query, and with the numbers in bytes.
+    pub fn numbered(kept: Kept, numbers: &Numbers) -> Session
+        ensures { result ≡ session_of kept (numbers_in numbers.now) }
     {
-        let kept = self.kept;
         Session {
-            kept: kept,
-            depth: numbers::get(numbers, numbers::DEPTH),
-            held: numbers::get(numbers, numbers::HELD),
-            opened: numbers::get(numbers, numbers::OPENED),
-            handed: numbers::get(numbers, numbers::HANDED),
-            ended: numbers::get(numbers, numbers::ENDED) != 0,
-            stopped: numbers::get(numbers, numbers::STOPPED) != 0,
+            kept,
+            depth: numbers::get(numbers, numbers::Field::Depth),
+            held: numbers::get(numbers, numbers::Field::Held),
+            opened: numbers::get(numbers, numbers::Field::Opened),
+            handed: numbers::get(numbers, numbers::Field::Handed),
+            ended: numbers::get(numbers, numbers::Field::Ended) != 0,
+            stopped: numbers::get(numbers, numbers::Field::Stopped) != 0,
         }
     }
 
@@ -175,42 +167,45 @@ impl Session {
         ensures { EventGives self bytes.now elements.old nodes.old out.old result
             elements.new nodes.new out.new }
     {
-        let kept = self.kept;
-        let mut numbers = [0u8; 24];
+        let mut numbers = [0u8; numbers::ROOM];
         self.lay(&mut numbers);
-        let r = offer::offer(&kept, bytes, &mut numbers, elements, nodes, out);
-        let answer = answered(r.refusal, r.listed);
-        let next = self.with(&numbers);
+        let r = offer::offer(&self.kept, bytes, &mut numbers, elements, nodes, out);
+        let answer = Answer::from(r);
+        let next = Session::numbered(self.kept, &numbers);
         Next {
-            answer: answer,
+            answer,
             session: next,
         }
     }
 
     // No event is looked at, or the first is refused for want of room.
-    fn stays(self, refusal: u8) -> Ran
+    fn stays(self, refusal: Option<Refusal>) -> Ran
         ensures { result ≡ record { session = self; taken = 0; listed = 0; refusal = refusal } }
     {
         Ran {
             session: self,
             taken: 0,
             listed: 0,
-            refusal: refusal,
+            refusal,
         }
     }
 
     // A block on the room that is needed.
-    fn run_within(self, events: &[u8], elements: &mut [u8], nodes: &mut [u8], out: &mut [u8]) -> Ran
-        requires { (length elements.old ≡ elements_needed) × (length nodes.old ≡ nodes_needed) }
+    fn run_within(
+        self,
+        events: &[u8],
+        elements: &mut Elements,
+        nodes: &mut Nodes,
+        out: &mut [u8],
+    ) -> Ran
         ensures out_after { ran result elements.new nodes.new out.new
             ≡ run_within self events.now elements.old nodes.old out.old }
         ensures taken_in_bounds { (8 * result.taken ≤ length events.now) × (4 * result.listed ≤ length out.new) }
     {
-        let kept = self.kept;
-        let mut numbers = [0u8; 24];
+        let mut numbers = [0u8; numbers::ROOM];
         self.lay(&mut numbers);
-        let fed = feed::feed(&kept, events, &mut numbers, elements, nodes, out);
-        let last = self.with(&numbers);
+        let fed = feed::feed(&self.kept, events, &mut numbers, elements, nodes, out);
+        let last = Session::numbered(self.kept, &numbers);
         Ran {
             session: last,
             taken: fed.taken,
@@ -226,33 +221,35 @@ impl Session {
         ensures taken_in_bounds { (8 * result.taken ≤ length events.now) × (4 * result.listed ≤ length out.new) }
     {
         if events.len() < 8 {
-            return self.stays(0);
+            return self.stays(None);
         }
         if out.len() < limits::OUTPUT {
-            return self.stays(0);
+            return self.stays(None);
         }
-        let room = lent::refuse_room(elements.len(), nodes.len());
-        if room != 0 {
-            return self.stays(room);
+        match lent::check_room(elements.len(), nodes.len()) {
+            Err(refusal) => self.stays(Some(refusal)),
+            Ok(()) => self.run_within(
+                events,
+                elements.first_chunk_mut().unwrap(),
+                nodes.first_chunk_mut().unwrap(),
+                out,
+            ),
         }
-        self.run_within(
-            events,
-            &mut elements[..limits::ELEMENTS_ROOM],
-            &mut nodes[..limits::NODES_ROOM],
-            out,
-        )
     }
 
     // "it changes nothing and may be asked again"
-    pub fn finish(self) -> Finish
+    pub fn finish(self) -> Result<Counts, Refusal>
         ensures { FinishGives self result }
     {
         if self.stopped {
-            return Finish::Refused(limits::ALREADY_STOPPED);
+            return Err(Refusal::Stopped);
         }
         if self.ended {
-            return Finish::Ended(self.opened, self.handed);
+            return Ok(Counts {
+                opened: self.opened,
+                handed: self.handed,
+            });
         }
-        Finish::Refused(limits::UNFINISHED)
+        Err(Refusal::Unfinished)
     }
 }

@@ -11,16 +11,17 @@
 --
 -- Assumes nothing. NOT here: the session in bytes (Laid), the query's answer as a number (crate query_c, Packed), that the promises allow one result (Laws).
 pub mod Offered
-use Rattle.std.specs.Prelude.{ℕ, ◌*◌, ◌/◌, ◌≡◌, List, eqb, length}
+use Rattle.std.specs.Prelude.{ℕ, ◌*◌, ◌/◌, ◌≡◌, List, Result, Ok, Err, eqb, length}
 use Rattle.choice.specs.When.{when}
+use Rattle.limits.specs.declared.Refusal.{Refusal}
+use Rattle.limits.specs.Number.{number}
 use Rattle.query.specs.Answer as query
 use Rattle.query_c.specs.Packed.{packed}
 use Rattle.feed.specs.Fed.{Fed, fed}
 use Rattle.session.specs.declared.Session.{Session}
 use Rattle.session.specs.declared.Answer.{Answer}
 use Rattle.session.specs.declared.Answer.TheVariants.{Refused, Taken}
-use Rattle.session.specs.declared.Finish.{Finish}
-use Rattle.session.specs.declared.Finish.TheVariants as finish
+use Rattle.session.specs.declared.Counts.{Counts}
 use Rattle.session.specs.Begin.{Begun, begun}
 use Rattle.session.specs.Event.{Done, event}
 use Rattle.session.specs.Event as session
@@ -133,20 +134,20 @@ pub record Finished : Type 0 where
   pub number : ℕ
   pub counts : List ℕ
 
-unfoldable pub end_number : Finish → ℕ
-end_number (finish.Refused n) = n
-end_number (finish.Ended opened handed) = 0
+unfoldable pub end_number : Result Counts Refusal → ℕ
+end_number (Err r) = number r
+end_number (Ok c) = 0
 
-unfoldable pub counted_by : Finish → List ℕ → List ℕ
-counted_by (finish.Refused n) C = C
-counted_by (finish.Ended opened handed) C = count_bytes opened handed
+unfoldable pub counted_by : Result Counts Refusal → List ℕ → List ℕ
+counted_by (Err r) C = C
+counted_by (Ok c) C = count_bytes c.opened c.handed
 
 abbrev pub unfinished : List ℕ → Finished
 unfinished C = record { number = no_session; counts = C }
 
 unfoldable pub finished : List ℕ → List ℕ → Finished
 finished S C =
-    let f : Finish = session.finish (session_in S) in
+    let f : Result Counts Refusal = session.finish (session_in S) in
     when (eqb (length S) session_room)
     (when (eqb (length C) counts_room) (record { number = end_number f; counts = counted_by f C }) (unfinished C))
     (unfinished C)

@@ -12,8 +12,15 @@
 --   collect_only        the same, where the next r is r with the place s if it passes
 --   collect_all         after the last place r is the set of the test
 --
+-- The test may be one that is called, of which R says what it may answer:
+--
+--   Called R s r        r is the set of the places under s at which the calls answered true: the loop's invariant at place s
+--   then f s b          the answers of f under s, and b from there on;  then_under, then_here: what it answers
+--   called_none, called_flag, called_all      before the first place, one call more, and after the last
+--   mask_of_calls       where R allows the outcome of a test alone, the set is that of the test
+--
 -- Assumes nothing.
-use Rattle.std.specs.Prelude.{ℕ, ◌+◌, ◌*◌, ◌%◌, ◌^◌, ◌≤◌, ◌<◌, ◌≡◌, refl, Bool, true, false, ◌&&◌, ◌||◌, eqb, ltb}
+use Rattle.std.specs.Prelude.{ℕ, ◌+◌, ◌*◌, ◌%◌, ◌^◌, ◌≤◌, ◌<◌, ◌≡◌, refl, Bool, true, false, ◌&&◌, ◌||◌, cond, eqb, ltb}
 use Rattle.std.proofs.Math.Decide.{dec_lt}
 use Rattle.std.proofs.Common.{zero-mul, le_refl, arith, sym, ap, ap₂, ◌∙◌, subst, shl_exact, eqb-true, lt-ltb, le-ltb}
 use Rattle.std.proofs.Math.Nat.{zero-mod}
@@ -21,9 +28,9 @@ use Rattle.std.proofs.Math.Bool.{and-false, or-true, or-false}
 use mir.Val.{bool_byte}
 use Rattle.std.specs.Int.Bits.{or_zero_r}
 use Rattle.std.proofs.lemmas.Bool.{eqb-false}
-use Rattle.sets.specs.Set.{member, join, one, with, only_if, mask_of}
+use Rattle.sets.specs.Set.{member, join, one, with, only_if, mask_of, MaskOfCalls}
 use Rattle.sets.proofs.Set.Laws.{member_none, member_with}
-use Rattle.sets.proofs.Set.Of.{is_mask_of}
+use Rattle.sets.proofs.Set.Of.{is_mask_of, mask_of_agree}
 
 -- a record, so that P, s and r are read off a proof of it
 pub record Collected (P : ℕ → Bool) (s r : ℕ) : Type 0 where
@@ -92,3 +99,59 @@ collect_only {P} {s} {r} {r'} e old = collect_flag (s + 1) (omega arith) (e ∙ 
 
 pub collect_all : (n : ℕ) {P : ℕ → Bool} {s r : ℕ} → s ≡ n → Collected P s r → r ≡ mask_of n P
 collect_all n {P} {s} {r} e all = is_mask_of n P r (λ t. rw (← e) (all.has t))
+
+-- a test that is called
+
+pub record Called (R : ℕ → Bool → Type 0) (s r : ℕ) : Type 0 where
+  pub test : ℕ → Bool
+  pub set : Collected test s r
+  pub given : (t : ℕ) → t < s → R t (test t)
+
+pub called_none : (R : ℕ → Bool → Type 0) → Called R 0 0
+called_none R = record { test = λ t. false; set = collect_none (λ t. false); given = λ t l. absurd (omega arith) }
+
+-- tests that agree on the places under s
+collected_agree : {P Q : ℕ → Bool} {s r : ℕ} → Collected P s r → ((t : ℕ) → t < s → P t ≡ Q t) → Collected Q s r
+collected_agree {P} {Q} {s} {r} all e = record { has = λ t. all.has t ∙ go t (dec_lt t s) }
+  where
+    go : (t : ℕ) → Dec (t < s) → (ltb t s && P t) ≡ (ltb t s && Q t)
+    go t (yes l) = ap (λ b. ltb t s && b) (e t l)
+    go t (no g) = let far : ltb t s ≡ false = le-ltb t s (omega arith) in rw far
+
+-- what f answers under s, and b from there on
+module _ {A : Type 0} (f : ℕ → A) (s : ℕ) (b : A) where
+  pub then : ℕ → A
+  then t = cond (ltb t s) (f t) b
+
+  pub then_under : (t : ℕ) → t < s → then t ≡ f t
+  unfolding then
+  then_under t l = ap (λ x. cond x (f t) b) (lt-ltb t s l)
+
+  pub then_here : then s ≡ b
+  unfolding then
+  then_here = ap (λ x. cond x (f s) b) (le-ltb s s (omega arith))
+
+pub called_flag :
+    (n : ℕ) {R : ℕ → Bool → Type 0} {s r r' : ℕ} {b : Bool} → s < n → r' ≡ join r ((bool_byte b * 2 ^ s) % 2 ^ n) → Called R s r → R s b →
+    Called R (s + 1) r'
+called_flag n {R} {s} {r} {r'} {b} h e old here =
+    record {
+      test = then old.test s b;
+      set = collect_flag n h (e ∙ ap (λ x. join r ((bool_byte x * 2 ^ s) % 2 ^ n)) (sym (then_here old.test s b)))
+          (collected_agree old.set (λ t l. sym (then_under old.test s b t l)));
+      given = λ t l. go t l (dec_lt t s);
+    }
+  where
+    go : (t : ℕ) → t < s + 1 → Dec (t < s) → R t (then old.test s b t)
+    go t u (yes l) = subst (R t) (sym (then_under old.test s b t l)) (old.given t l)
+    go t u (no g) =
+        let same : s ≡ t = omega arith in
+        subst (λ x. R x (then old.test s b x)) same (subst (R s) (sym (then_here old.test s b)) here)
+
+pub called_all : (n : ℕ) {R : ℕ → Bool → Type 0} {s r : ℕ} → s ≡ n → Called R s r → MaskOfCalls R n r
+called_all n {R} {s} {r} e all =
+    record { test = all.test; mask = collect_all n e all.set; answered = λ t l. all.given t (omega arith) }
+
+pub mask_of_calls :
+    {R : ℕ → Bool → Type 0} {n r : ℕ} (P : ℕ → Bool) → MaskOfCalls R n r → ((t : ℕ) (b : Bool) → t < n → R t b → b ≡ P t) → r ≡ mask_of n P
+mask_of_calls {R} {n} P m e = m.mask ∙ mask_of_agree n m.test P (λ t l. e t (m.test t) l (m.answered t l))

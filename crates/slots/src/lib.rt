@@ -3,7 +3,7 @@
 #![tactic(auto)]
 
 ghost use Rattle.std.specs.Prelude.{◌≡◌, ◌+◌, ◌≤◌, ◌<◌, length, set, get_or, drop};
-ghost use Rattle.slots.specs.Slots.{room_needed, name_bytes, base_of, length_in, number_in, numbered};
+ghost use Rattle.slots.specs.Slots.{name_bytes, base_of, length_in, number_in, numbered};
 ghost use Rattle.slots.specs.Copied.{copied, agreed, is_name, doubled_in};
 
 // A slot: the bytes of a name, as many as one may have, its length, the two bytes of its number, high byte first, and one that is not used.
@@ -26,139 +26,129 @@ pub struct Walk {
 }
 
 // Where a slot begins. A slot that is not there counts as the first.
+#[tactic(auto, using(choice::specs::Tests::tests), unfolding(crate::specs::Slots::base_of))]
 pub fn base(slot: usize) -> usize
     ensures { (result ≡ base_of slot) × (result + 68 ≤ 18_496) }
 {
-    if slot < SLOTS {
-        return slot * SLOT;
-    }
-    0
+    if slot < SLOTS { slot * SLOT } else { 0 }
 }
 
 // Puts byte k of a slot.
-pub fn put(room: &mut [u8], slot: usize, k: usize, b: u8)
-    requires { (length room.old ≡ room_needed) × (k < 68) }
+pub fn put(room: &mut [u8; ROOM], slot: usize, k: usize, b: u8)
+    requires { k < 68 }
     ensures { room.new ≡ set room.old (base_of slot + k) b }
 {
-    let at = base(slot) + k;
-    room[at] = b;
+    room[base(slot) + k] = b;
 }
 
 // The length of the name in a slot; one past the limit, which no calls lead to, counts as the limit.
-pub fn length(room: &[u8], slot: usize) -> u8
-    requires { length room.now ≡ room_needed }
+#[tactic(auto, using(choice::specs::Tests::tests), unfolding(crate::specs::Slots::length_in))]
+pub fn length(room: &[u8; ROOM], slot: usize) -> u8
     ensures { (result ≡ length_in room.now slot) × (result ≤ name_bytes) }
 {
-    let n = room[base(slot) + LENGTH];
-    if (limits::NAME_BYTES as u8) < n {
-        return limits::NAME_BYTES as u8;
-    }
-    n
+    room[base(slot) + LENGTH].min(limits::NAME_BYTES as u8)
 }
 
 // Byte k of a slot.
-pub fn get(room: &[u8], slot: usize, k: usize) -> u8
-    requires { (length room.now ≡ room_needed) × (k < 68) }
+pub fn get(room: &[u8; ROOM], slot: usize, k: usize) -> u8
+    requires { k < 68 }
     ensures { result ≡ get_or room.now (base_of slot + k) 0 }
 {
     room[base(slot) + k]
 }
 
 // The number of the name in a slot.
-pub fn number(room: &[u8], slot: usize) -> u32
-    requires { length room.now ≡ room_needed }
+#[tactic(auto, unfolding(crate::specs::Slots::number_in))]
+pub fn number(room: &[u8; ROOM], slot: usize) -> u32
     ensures { (result ≡ number_in room.now slot) × (result < 65_536) }
 {
     let at = base(slot);
-    room[at + 65] as u32 * 256 + room[at + 66] as u32
+    u16::from_be_bytes([room[at + 65], room[at + 66]]) as u32
 }
 
 // Puts it there.
-pub fn put_number(room: &mut [u8], slot: usize, number: u32)
-    requires { (length room.old ≡ room_needed) × (number < 65_536) }
+#[tactic(auto, unfolding(crate::specs::Slots::numbered))]
+pub fn put_number(room: &mut [u8; ROOM], slot: usize, number: u32)
+    requires { number < 65_536 }
     ensures { room.new ≡ numbered room.old slot number }
 {
-    put(room, slot, 65, (number / 256) as u8);
-    put(room, slot, 66, (number % 256) as u8);
+    let [high, low] = (number as u16).to_be_bytes();
+    put(room, slot, 65, high);
+    put(room, slot, 66, low);
 }
 
 // Copies more of a name into a slot, where n bytes of it stand: up to a byte of no name, the limit, or the text's end.
+#[tactic(auto, using(crate::proofs::Copied::Laws::copying))]
 pub fn copy(
     marks: &[u8; 256],
     text: &[u8],
     from: usize,
-    room: &mut [u8],
+    room: &mut [u8; ROOM],
     slot: usize,
     n: u8,
 ) -> Walk
-    requires { (from ≤ length text.now) × (length room.old ≡ room_needed) }
+    requires { from ≤ length text.now }
     ensures { record { at = result.at; n = result.n; room = room.new }
         ≡ copied marks.now room.old slot n from (drop from text.now) }
 {
     let to = base(slot);
-    let mut at = from;
     let mut k = n;
-    while at < text.len() {
+    for at in from..text.len() {
         let b = text[at];
-        if marks[b as usize] & chars::NAME_CHAR == 0 {
-            return Walk { at, n: k };
-        }
-        if limits::NAME_BYTES as u8 <= k {
+        if !chars::has(marks, b, chars::NAME_CHAR) || limits::NAME_BYTES as u8 <= k {
             return Walk { at, n: k };
         }
         room[to + k as usize] = b;
         k += 1;
-        at += 1;
     }
-    Walk { at, n: k }
+    Walk {
+        at: text.len(),
+        n: k,
+    }
 }
 
 // Goes on with the name in a slot, of which n bytes were read: up to a byte that differs, its end, or the text's end.
-pub fn agree(text: &[u8], from: usize, room: &[u8], slot: usize, n: u8) -> Walk
-    requires { (from ≤ length text.now) × (length room.now ≡ room_needed) }
+#[tactic(auto, using(crate::proofs::Copied::Laws::agreeing))]
+pub fn agree(text: &[u8], from: usize, room: &[u8; ROOM], slot: usize, n: u8) -> Walk
+    requires { from ≤ length text.now }
     ensures { record { at = result.at; n = result.n } ≡ agreed room.now slot n from (drop from text.now) }
 {
     let to = base(slot);
     let end = length(room, slot);
-    let mut at = from;
     let mut k = n;
-    while at < text.len() {
-        if end <= k {
-            return Walk { at, n: k };
-        }
-        if text[at] != room[to + k as usize] {
+    for at in from..text.len() {
+        if end <= k || text[at] != room[to + k as usize] {
             return Walk { at, n: k };
         }
         k += 1;
-        at += 1;
     }
-    Walk { at, n: k }
+    Walk {
+        at: text.len(),
+        n: k,
+    }
 }
 
 // Whether the name in a slot has n bytes, those that stand from `at` on.
-fn is_name(room: &[u8], slot: usize, at: usize, n: u8) -> bool
-    requires { (length room.now ≡ room_needed) × (n ≤ name_bytes) × (at + 68 ≤ 18_496) }
+#[tactic(auto, using(choice::specs::Tests::tests), unfolding(crate::specs::Copied::is_name))]
+fn is_name(room: &[u8; ROOM], slot: usize, at: usize, n: u8) -> bool
+    requires { (n ≤ name_bytes) × (at + 68 ≤ 18_496) }
     ensures { result ≡ is_name room.now slot at n }
 {
     let other = base(slot);
-    if room[other + LENGTH] != n {
-        return false;
-    }
-    chars::same(room, other, room, at, n as usize)
+    room[other + LENGTH] == n && chars::same(room, other, room, at, n as usize)
 }
 
 // Whether one of the first `count` attributes has the name of n bytes that stands in the slot after them.
-pub fn doubled(room: &[u8], count: u8, n: u8) -> bool
-    requires { (length room.now ≡ room_needed) × (n ≤ name_bytes) }
+#[tactic(auto, using(crate::proofs::Copied::Laws::doubling))]
+pub fn doubled(room: &[u8; ROOM], count: u8, n: u8) -> bool
+    requires { n ≤ name_bytes }
     ensures { result ≡ doubled_in room.now count n }
 {
     let at = base(ATTRIBUTES + count as usize);
-    let mut k: usize = 0;
-    while k < count as usize {
+    for k in 0..count as usize {
         if is_name(room, ATTRIBUTES + k, at, n) {
             return true;
         }
-        k += 1;
     }
     false
 }

@@ -1,3 +1,3 @@
 -- What is shown of specs/Step.
-pub mod Laws
+pub mod Sizes
 pub mod Left

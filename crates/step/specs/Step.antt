@@ -2,19 +2,21 @@
 -- the records in use, the others as they were.
 --
 --   After, after              what an event comes to: its refusal, or 0, how many nodes were handed out, and all that was lent
+--   listed_in r               how many nodes were handed out where the code answers r: none beside a refusal
 --   refused_with r n E N out   a refusal: all as it was
 --   moved_out P depth held E N      the nodes that wait at the innermost of `depth` elements move up out of it or leave
 --   open_taken, close_taken     an open and a close that nothing refuses;  on_open, on_close: any open and close of x
---   step P e n E N out        the event e
+--   step P e n E N out        the event e, or a record that is none
 --
 -- Assumes nothing. NOT here: the refusals by the numbers, and the numbers afterwards (crate tally); an open before anything is handed out (crate opening); that
 -- this is the engine's event on the state that the rooms hold (crate right).
-use Rattle.std.specs.Prelude.{ℕ, ◌+◌, ◌-◌, List, eqb, ltb, length, take}
+use Rattle.std.specs.Prelude.{ℕ, ◌+◌, ◌-◌, Option, None, Some, Result, Ok, Err, List, eqb, ltb, length, take}
 use mir.Val.{bool_byte}
 use Rattle.choice.specs.When.{when}
 use Rattle.meaning.specs.Refusals.{bad_record, too_many_held}
+use Rattle.limits.specs.declared.Refusal.{Refusal}
 use Rattle.records.specs.declared.Event.{Event}
-use Rattle.records.specs.declared.Event.TheVariants.{Open, Close, Bad}
+use Rattle.records.specs.declared.Event.TheVariants.{Open, Close}
 use Rattle.plan.specs.Plan.{Plan}
 use Rattle.engine.specs.Quick.{possible_at, cut, went_if}
 use Rattle.element.specs.Element.{Elements, frame_at}
@@ -34,6 +36,10 @@ pub record After : Type 0 where
 
 abbrev pub after : ℕ → ℕ → Numbers → Elements → Queue → List ℕ → After
 after refusal listed n E N out = record { refusal = refusal; listed = listed; numbers = n; elements = E; nodes = N; out = out }
+
+abbrev pub listed_in : Result ℕ Refusal → ℕ
+listed_in (Ok k) = k
+listed_in (Err r) = 0
 
 abbrev pub refused_with : ℕ → Numbers → Elements → Queue → List ℕ → After
 refused_with r n E N out = after r 0 n E N out
@@ -84,7 +90,7 @@ on_close P x n E N out =
     when (eqb (refuse_close n E x) 0) (close_taken P n E N out) (refused_with (refuse_close n E x) n E N out)
 
 -- "2: not 8 bytes, or a bad record"
-unfoldable pub step : Plan → Event → Numbers → Elements → Queue → List ℕ → After
-step P (Open x) n E N out = on_open P x n E N out
-step P (Close x) n E N out = on_close P x n E N out
-step P Bad n E N out = refused_with bad_record n E N out
+unfoldable pub step : Plan → Option Event → Numbers → Elements → Queue → List ℕ → After
+step P (Some (Open x)) n E N out = on_open P x n E N out
+step P (Some (Close x)) n E N out = on_close P x n E N out
+step P None n E N out = refused_with bad_record n E N out

@@ -6,7 +6,7 @@
 --
 -- Assumes nothing. NOT here: which refusals stop (crate meaning, Refusals), the stop over all calls (crate meaning, Answer.Stop).
 pub mod Laws
-use Rattle.std.specs.Prelude.{ℕ, List, eqb}
+use Rattle.std.specs.Prelude.{ℕ, Option, List, eqb}
 use Rattle.choice.specs.When.{when}
 use Rattle.meaning.specs.Refusals.{already_stopped, stops}
 use Rattle.records.specs.declared.Event.{Event}
@@ -24,5 +24,5 @@ abbrev pub marked : After → After
 marked a = after a.refusal a.listed (marked_by a.refusal a.numbers) a.elements a.nodes a.out
 
 -- "A call refused with 11 changes nothing at all"
-unfoldable pub guarded : Plan → Event → Numbers → Elements → Queue → List ℕ → After
+unfoldable pub guarded : Plan → Option Event → Numbers → Elements → Queue → List ℕ → After
 guarded P e n E N out = when (eqb n.stopped 0) (marked (step P e n E N out)) (refused_with already_stopped n E N out)

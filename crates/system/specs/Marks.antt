@@ -11,6 +11,7 @@
 --   Failed                   bytes were handed to standard output by a call, and not all were taken
 --   ReadAt file at l l' r    one read of the file into l from at on, which gave r bytes and left l'
 --   ReadFull file l r        reads of the file into l from its start on, which gave r bytes
+--   FileGiven path l r       a file of this path was opened, read so, and closed
 --
 -- The first six are marks: what they stand for is not said to any other module, and only Marks.Seal makes them. That module is for the proofs of this
 -- crate's functions alone (tests/marks/run holds every other file to it), so a function that claims a mark has called a function that gives it. That the
@@ -62,3 +63,9 @@ pub record ReadFull (file : File) (l : List ℕ) (r : ℕ) : Type 0 where
   pub given : ReadGave file (take r l)
   pub over : r < length l → ReadOver file
   pub counts : IsPrefixLen r l
+
+pub record FileGiven (path l : List ℕ) (r : ℕ) : Type 0 where
+  pub file : File
+  pub opened : FileOpened path file
+  pub full : ReadFull file l r
+  pub closed : FileClosed file

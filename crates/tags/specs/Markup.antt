@@ -8,7 +8,7 @@
 use Rattle.std.specs.Prelude.{ℕ, ◌+◌, List, eqb, leb, ltb, set}
 use Rattle.choice.specs.When.{when}
 use Rattle.meaning.specs.Limits.{depth_limit}
-use Rattle.xml.specs.Refused.{misplaced, instruction, foreign_name, nested}
+use Rattle.limits.specs.declared.TextRefusal.TheVariants.{Misplaced, Instruction, ForeignName, Nested}
 use Rattle.chars.specs.Marks.{marked}
 use Rattle.slots.specs.Slots.{base_of}
 use Rattle.modes.specs.declared.Mode.TheVariants as mode
@@ -26,20 +26,20 @@ kept r R = record { reader = r; room = R }
 
 unfoldable pub begun : Reader → ℕ → List ℕ → Ticked
 begun r b R =
-    when (eqb r.place after_place) (kept (refuse_with r misplaced) R)
-    (when (leb depth_limit r.place) (kept (refuse_with r nested) R) (kept (spell_on r mode.Tag 0 1) (set R (base_of r.place + 0) b)))
+    when (eqb r.place after_place) (kept (refuse_with r Misplaced) R)
+    (when (leb depth_limit r.place) (kept (refuse_with r Nested) R) (kept (spell_on r mode.Tag 0 1) (set R (base_of r.place + 0) b)))
 
 unfoldable pub slashed_tick : Reader → Reader
-slashed_tick r = when (eqb r.place 0) (refuse_with r misplaced) (when (ltb depth_limit r.place) (refuse_with r misplaced) (go_to r mode.End))
+slashed_tick r = when (eqb r.place 0) (refuse_with r Misplaced) (when (ltb depth_limit r.place) (refuse_with r Misplaced) (go_to r mode.End))
 
 unfoldable pub markup_tick : List ℕ → Reader → ℕ → List ℕ → Ticked
 markup_tick M r b R =
     when (marked M b 32) (begun r b R)
     (when (eqb b 33) (kept (spell_on r mode.Bang 0 2) R)
     (when (eqb b 47) (kept (slashed_tick r) R)
-    (when (eqb b 63) (kept (refuse_with r instruction) R)
-    (when (ltb b 128) (kept (refuse_with r misplaced) R)
-    (when (eqb r.place after_place) (kept (refuse_with r misplaced) R) (kept (refuse_with r foreign_name) R))))))
+    (when (eqb b 63) (kept (refuse_with r Instruction) R)
+    (when (ltb b 128) (kept (refuse_with r Misplaced) R)
+    (when (eqb r.place after_place) (kept (refuse_with r Misplaced) R) (kept (refuse_with r ForeignName) R))))))
 
 unfoldable pub first_tick : List ℕ → Reader → ℕ → List ℕ → Ticked
 first_tick M r b R = when (eqb b 63) (kept (spell_on r (mode.Prolog prolog.Xml) 0 2) R) (markup_tick M r b R)

@@ -16,11 +16,12 @@ use borrow.Author.Tests.{ne_eqb, eqb-true, eqb-false}
 use Rattle.choice.specs.When.{when, when_true, when_false}
 use Rattle.xml.specs.Class.{in_class, keep, derive, word}
 use Rattle.xml.specs.Chars.{utf8, plain, blank}
-use Rattle.xml.specs.Refused.{misplaced, not_char, cdata, doctype}
+use Rattle.xml.specs.Refused.{misplaced, not_char}
 use Rattle.xml.specs.Grammar.{Br, b0, b1, b2, bracket}
 use Rattle.xml.specs.Machine.{Place, State, refused, goes, Arms, one_of, lit, greater, settle, pick, step, then_byte, remarks}
 use Rattle.xml.specs.Limited.{bounds}
 use Rattle.chars.specs.Forms.{lead_form, follows, whole}
+use Rattle.limits.specs.declared.TextRefusal.TheVariants.{Cdata, Doctype, Misplaced}
 use Rattle.modes.specs.declared.Mode.{Mode}
 use Rattle.modes.specs.declared.Mode.TheVariants as mode
 use Rattle.modes.specs.declared.Reader.{Reader}
@@ -153,7 +154,7 @@ module _ (r : Reader) (R : List ℕ) (b : ℕ) (kept : Kept R r.place) where
       → b < 256
       → Inner r.place
       → Matches (goes [] (State.at (place_of R r.place) (bracket k))) (go_to r m) R
-      → Matches (greater k (State.at (place_of R r.place) b0)) (when shut (refuse_with r misplaced) (go_to r mode.Data)) R
+      → Matches (greater k (State.at (place_of R r.place) b0)) (when shut (refuse_with r Misplaced) (go_to r mode.Data)) R
       → Matches (step bounds (State.at (place_of R r.place) k) b) (data_tick marks_table r b m shut) R
   unfolding data_tick state_in evs_in rest pick when amper_state wide_tick back_state
   by_brackets k m shut l h f g =
@@ -250,11 +251,11 @@ module _ (r : Reader) (R : List ℕ) (b : ℕ) (kept : Kept R r.place) where
   first_tick_lem :
       bang_tick two b
       ≡ when (eqb b 45) (spell_on two mode.Bang 0 3)
-      (when (eqb b 91) (refuse_with two cdata) (when (eqb b 68) (refuse_with two doctype) (refuse_with two misplaced)))
+      (when (eqb b 91) (refuse_with two Cdata) (when (eqb b 68) (refuse_with two Doctype) (refuse_with two Misplaced)))
   unfolding bang_tick when two
   first_tick_lem = refl
 
-  second_tick : bang_tick three b ≡ when (eqb b 45) (go_to three mode.Note) (refuse_with three misplaced)
+  second_tick : bang_tick three b ≡ when (eqb b 45) (go_to three mode.Note) (refuse_with three Misplaced)
   unfolding bang_tick when three
   second_tick = refl
 

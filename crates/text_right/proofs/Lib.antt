@@ -1,4 +1,5 @@
 -- The proofs of crate text_right.
+pub mod Bounds
 pub mod Below
 pub mod Content
 pub mod Doubled

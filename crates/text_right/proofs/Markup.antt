@@ -24,12 +24,13 @@ use Rattle.xml.proofs.Bounds.Laws.{name_limit_is}
 use Rattle.xml.specs.Machine.{State, Outcome, refused, goes, check, foreign, begins, slashed, markup_arms, pick, step}
 use Rattle.xml.specs.Limited.{bounds}
 use Rattle.slots.specs.Slots.{base_of, length_in}
+use Rattle.limits.specs.declared.TextRefusal.TheVariants.{ForeignName, Misplaced}
 use Rattle.modes.specs.declared.Mode.{Mode}
 use Rattle.modes.specs.declared.Reader.{Reader}
 use Rattle.modes.specs.Moves.{after_place, refuse_with}
 use Rattle.tags.specs.Markup
 use Rattle.tags.specs.Markup.{begun, slashed_tick, markup_tick, first_tick}
-use Rattle.tags.proofs.Found.{not_deeper, deeper}
+use Rattle.text_right.proofs.Bounds.{not_deeper, deeper}
 use Rattle.text_right.specs.Marked.{marks_table, start_mark, beyond_mark}
 use Rattle.text_right.specs.Stands.{names, place_of, begun_in, end_state, bang_state, prolog_state, state_in, evs_in}
 use Rattle.text_right.specs.Sound.{Inner, Outer, Spot, Kept, FitsIn, Fits}
@@ -137,8 +138,8 @@ module _ (r : Reader) (R : List ℕ) (b : ℕ) (kept : Kept R r.place) where
   foreign_right :
       b < 256 → Spot r.place
       → Ticks (when (in_class beyond b) (foreign (place_of R r.place)) (refused misplaced))
-      (when (ltb b 128) (Markup.kept (refuse_with r misplaced) R)
-      (when (eqb r.place after_place) (Markup.kept (refuse_with r misplaced) R) (Markup.kept (refuse_with r Refused.foreign_name) R)))
+      (when (ltb b 128) (Markup.kept (refuse_with r Misplaced) R)
+      (when (eqb r.place after_place) (Markup.kept (refuse_with r Misplaced) R) (Markup.kept (refuse_with r ForeignName) R)))
   foreign_right l h =
       by_ticks (ltb b 128)
       (λ e. Matches.stops (omega arith) (when_false _ _ _ (sym (beyond_mark b l) ∙ lt-leb 128 b (ltb-true _ _ e))))

@@ -20,6 +20,7 @@ use Rattle.xml.specs.Refused.{misplaced, instruction}
 use Rattle.xml.specs.Grammar.{b0}
 use Rattle.xml.specs.Machine.{Place, State, refused, goes, then_byte, pick, step}
 use Rattle.xml.specs.Limited.{bounds}
+use Rattle.limits.specs.declared.TextRefusal.TheVariants.{Instruction, Misplaced}
 use Rattle.modes.specs.declared.Mode.TheVariants as mode
 use Rattle.modes.specs.declared.Prolog.TheVariants as prolog
 use Rattle.modes.specs.declared.Reader.{Reader}
@@ -67,11 +68,11 @@ module _ (r : Reader) (R : List ℕ) (b : ℕ) (kept : Kept R r.place) (at : r.p
   read : ℕ → Reader
   read n = tuned r r.count r.row n
 
-  mark_first_tick : mark_tick (read 1) b ≡ when (eqb b 187) (spell_on (read 1) (mode.Prolog prolog.Mark) 0 2) (refuse_with (read 1) misplaced)
+  mark_first_tick : mark_tick (read 1) b ≡ when (eqb b 187) (spell_on (read 1) (mode.Prolog prolog.Mark) 0 2) (refuse_with (read 1) Misplaced)
   unfolding mark_tick when read
   mark_first_tick = refl
 
-  mark_second_tick : mark_tick (read 2) b ≡ when (eqb b 191) (go_to (read 2) (mode.Prolog prolog.Fresh)) (refuse_with (read 2) misplaced)
+  mark_second_tick : mark_tick (read 2) b ≡ when (eqb b 191) (go_to (read 2) (mode.Prolog prolog.Fresh)) (refuse_with (read 2) Misplaced)
   unfolding mark_tick when read
   mark_second_tick = refl
 
@@ -103,7 +104,7 @@ module _ (r : Reader) (R : List ℕ) (b : ℕ) (kept : Kept R r.place) (at : r.p
       subst (λ n. Matches (step bounds (prolog_state R r.back r.place r.count r.row n prolog.Mark) b) (mark_tick (read n) b) R) (sym e) mark_second
 
   xml_on : (n c : ℕ) → Reader → Reader
-  xml_on n c x = when (eqb b c) x (refuse_with (read n) instruction)
+  xml_on n c x = when (eqb b c) x (refuse_with (read n) Instruction)
 
   xml_tick_2 : xml_tick (read 2) b ≡ xml_on 2 120 (spell_on (read 2) (mode.Prolog prolog.Xml) 0 3)
   unfolding xml_tick when read xml_on

@@ -13,10 +13,11 @@ use Rattle.std.proofs.Math.Dec.{leb, leb→le}
 use Rattle.choice.specs.When.{when, when_true, when_false, when_either}
 use Rattle.xml.specs.Class.{Rows, in_class, keep, derive, word, words}
 use Rattle.xml.proofs.Class.Laws.{and_l, and_r}
-use Rattle.xml.specs.Refused.{misplaced, other_encoding}
 use Rattle.xml.specs.Grammar.{part_values}
 use Rattle.xml.specs.Machine.{State, refused, goes, part_refusal, settle, pick, step}
 use Rattle.xml.specs.Limited.{bounds}
+use Rattle.limits.specs.Number.{text_number}
+use Rattle.limits.specs.declared.TextRefusal.TheVariants.{OtherEncoding, Misplaced}
 use Rattle.modes.specs.declared.Mode.TheVariants as mode
 use Rattle.modes.specs.declared.Prolog.{Prolog}
 use Rattle.modes.specs.declared.Prolog.TheVariants as prolog
@@ -42,9 +43,9 @@ part_of_lem row = go (eqb row 4) refl
     go true e = ap part_no (when_true _ _ _ e) ∙ third_again ∙ ap part_no (sym (eqb-true row 4 e))
     go false e = ap part_no (when_false _ _ _ e)
 
-refusal_some : (y : ℕ) → 0 < value_refusal y
+refusal_some : (y : ℕ) → 0 < text_number (value_refusal y)
 unfolding value_refusal
-refusal_some y = when_either (λ z. 0 < z) (eqb y 2) other_encoding misplaced (omega arith) (omega arith)
+refusal_some y = when_either (λ z. 0 < text_number z) (eqb y 2) OtherEncoding Misplaced (omega arith) (omega arith)
 
 -- after the byte b, n bytes having been read, the value is y and d is left
 left_test : ℕ → ℕ → ℕ → ℕ → Rows → Bool
@@ -56,7 +57,8 @@ value_test : ℕ → ℕ → ℕ → ℕ → Bool
 value_test q row n b =
     eqb (part_of (value_row row n b)) (part_of row)
     && ((leb 1 (part_of (value_row row n b)) && leb (part_of (value_row row n b)) 3)
-    && (eqb (value_refusal (value_row row n b)) (part_refusal (part_no row)) && left_test q n b (value_row row n b) (derive b (value_left row n q))))
+    && (eqb (text_number (value_refusal (value_row row n b))) (part_refusal (part_no row))
+    && left_test q n b (value_row row n b) (derive b (value_left row n q))))
 
 double_pass : T (up_to 5 (λ row. up_to 6 (λ n. not (value_ok row n) || up_to 256 (value_test 34 row n))))
 unfolding up_to value_ok value_test left_test value_row part_of value_refusal value_byte small part_no spent waits same_rows same_row same_class
@@ -98,9 +100,9 @@ module _ (r : Reader) (R : List ℕ) (b : ℕ) (kept : Kept R r.place) (at : r.p
   -- the value does not go on so
   none_left :
       (row n q y : ℕ)
-      → part_refusal (part_no row) ≡ value_refusal y
+      → part_refusal (part_no row) ≡ text_number (value_refusal y)
       → T (same_rows (derive b (value_left row n q)) [])
-      → settle (derive b (value_left row n q)) (part_refusal (part_no row)) [] (State.told (part_no row)) ≡ refused (value_refusal y)
+      → settle (derive b (value_left row n q)) (part_refusal (part_no row)) [] (State.told (part_no row)) ≡ refused (text_number (value_refusal y))
   none_left row n q y e h =
       ap (λ z. settle z (part_refusal (part_no row)) [] (State.told (part_no row))) (same_rows_lem (derive b (value_left row n q)) [] h) ∙ ap refused e
 
@@ -120,14 +122,15 @@ module _ (r : Reader) (R : List ℕ) (b : ℕ) (kept : Kept R r.place) (at : r.p
       let k = State.told (part_no r.row) in
       let x = part_refusal (part_no r.row) in
       let more = value_left y (r.n + 1) q in
-      let t₁ = and_r (eqb (part_of y) (part_of row)) ((leb 1 (part_of y) && leb (part_of y) 3) && (eqb (value_refusal y) x && left_test q n b y d)) t in
-      let t₂ = and_r (leb 1 (part_of y) && leb (part_of y) 3) (eqb (value_refusal y) x && left_test q n b y d) t₁ in
-      let t₃ = and_r (eqb (value_refusal y) x) (left_test q n b y d) t₂ in
-      let range = and_l (leb 1 (part_of y) && leb (part_of y) 3) (eqb (value_refusal y) x && left_test q n b y d) t₁ in
+      let t₁ = and_r (eqb (part_of y) (part_of row))
+      ((leb 1 (part_of y) && leb (part_of y) 3) && (eqb (text_number (value_refusal y)) x && left_test q n b y d)) t in
+      let t₂ = and_r (leb 1 (part_of y) && leb (part_of y) 3) (eqb (text_number (value_refusal y)) x && left_test q n b y d) t₁ in
+      let t₃ = and_r (eqb (text_number (value_refusal y)) x) (left_test q n b y d) t₂ in
+      let range = and_l (leb 1 (part_of y) && leb (part_of y) 3) (eqb (text_number (value_refusal y)) x && left_test q n b y d) t₁ in
       let same : part_no r.row ≡ part_no (value_row r.row r.n b) =
       sym (part_of_lem row) ∙ ap part_no (sym (eqb→eq _ _ (and_l (eqb (part_of y) (part_of row)) _ t))) ∙ part_of_lem y in
-      let refusal : part_refusal (part_no r.row) ≡ value_refusal (value_row r.row r.n b) =
-      sym (eqb→eq (value_refusal y) x (and_l (eqb (value_refusal y) x) (left_test q n b y d) t₂)) in
+      let refusal : part_refusal (part_no r.row) ≡ text_number (value_refusal (value_row r.row r.n b)) =
+      sym (eqb→eq (text_number (value_refusal y)) x (and_l (eqb (text_number (value_refusal y)) x) (left_test q n b y d) t₂)) in
       let last = when (eqb b q) (spent d) (same_rows d []) in
       let next = when (eqb (small y b) (value_byte y n)) (same_rows d more && (waits d && value_ok y (n + 1))) (same_rows d []) in
       turn (when_false _ _ _ (le-ltb 5 r.n (omega arith)))

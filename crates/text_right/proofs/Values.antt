@@ -28,7 +28,7 @@ use Rattle.modes.specs.declared.Mode.{Mode}
 use Rattle.modes.specs.declared.Mode.TheVariants as mode
 use Rattle.modes.specs.declared.Reader.{Reader}
 use Rattle.tags.specs.Tag.{tag_end, tagged_tick, equals_tick, value_tick, quoted_tick, att_ended}
-use Rattle.tags.proofs.Found.{not_deep, not_many}
+use Rattle.text_right.proofs.Bounds.{not_deep, not_many}
 use Rattle.text_right.specs.Marked.{marks_table, double_mark, single_mark, blank_mark}
 use Rattle.text_right.specs.Stands.{names, atts_of, place_of, back_state, amper_state, state_in, evs_in}
 use Rattle.text_right.specs.Sound.{Kept, InTag, InAtt, Back, entity_none, Fits}

@@ -27,7 +27,7 @@ use Rattle.prolog.specs.Around.{around}
 use Rattle.content.specs.Text.{data_tick, note_tick}
 use Rattle.tags.specs.Markup.{kept}
 use Rattle.tags.specs.Tag.{name_byte, tag_tick, gap_tick, att_tick, equals_tick, value_tick, quoted_tick}
-use Rattle.tags.proofs.Found.{not_long}
+use Rattle.text_right.proofs.Bounds.{not_long}
 use Rattle.ends.specs.Ends.{ended_tick, end_tick}
 use Rattle.tick.specs.Tick.{tick_in, tick}
 use Rattle.walk.specs.Walk.{innermost_of, pace_in, pace_of, beside, walked_by, walked}

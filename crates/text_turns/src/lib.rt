@@ -7,7 +7,7 @@ ghost use Rattle.meaning.specs.Limits.{elements_needed, nodes_needed};
 ghost use Rattle.chains.specs.Index.{index_words};
 ghost use Rattle.turns.specs.Turns.{Started};
 ghost use Rattle.intake.specs.Intake.{longest, WithinText};
-ghost use Rattle.text_turns.specs.Stand.{begun_with, more_by, Refilled};
+ghost use Rattle.text_turns.specs.Stand.{begun_with, more_text, Refilled};
 ghost use Rattle.text_turns.specs.Picked.{WorkedText};
 
 use intake::Intake;
@@ -24,40 +24,33 @@ pub struct Stand {
 }
 
 // Whether there is more to do: events that are not worked on, or text that is not read.
-fn more_to_do(refusal: u8, written: bool, from: usize, end: usize, stop: u8, ended: bool) -> bool
-    ensures { result ≡ more_by refusal written from end stop ended }
+#[tactic(auto, using(crate::specs::Stand::numbers), unfolding(crate::specs::Stand::more_by, choice::specs::When::when))]
+fn more_to_do(stand: &Stand) -> bool
+    ensures { result ≡ more_text stand.now.intake stand.now.state }
 {
-    if refusal != 0 {
-        return false;
+    let Stand { intake, state } = *stand;
+    let text_left = match intake.refusal {
+        Some(_) => false,
+        None => !intake.ended,
+    };
+    match state.refusal {
+        Some(_) => false,
+        None => state.written && (state.from < state.end || text_left),
     }
-    if written {
-        if from < end {
-            return true;
-        }
-        if stop != 0 {
-            return false;
-        }
-        if ended {
-            return false;
-        }
-        return true;
-    }
-    false
 }
 
 // Before the first turn.
 fn begin(session: Session) -> Stand
     ensures { result ≡ begun_with session }
 {
-    let intake = intake::begin();
     Stand {
-        intake,
+        intake: intake::begin(),
         state: State {
             session,
             from: 0,
             end: 0,
             taken: 0,
-            refusal: 0,
+            refusal: None,
             ended: false,
             written: true,
         },
@@ -83,19 +76,16 @@ fn refill(
     if state.from < state.end {
         return stand;
     }
-    let before = stand.intake;
-    let intake = intake::advance(file, before, input, names, index, room, events);
-    let session = state.session;
+    let intake = intake::advance(file, stand.intake, input, names, index, room, events);
     Stand {
         intake,
         state: State {
-            session,
             from: 0,
             end: intake.written,
-            taken: state.taken,
-            refusal: 0,
+            refusal: None,
             ended: false,
             written: true,
+            ..state
         },
     }
 }
@@ -120,15 +110,9 @@ pub fn work_text(
     let mut events = [0u8; 32768];
     let mut out = [0u8; 32768];
     let mut stand = begin(session);
-    'turns: while more_to_do(
-        stand.state.refusal,
-        stand.state.written,
-        stand.state.from,
-        stand.state.end,
-        stand.intake.refusal,
-        stand.intake.ended,
-    ) {
-        let filled = refill(
+    // Kept: how many turns there are is for the file and the events to say, so there is nothing that a `for` could go over (d).
+    'turns: while more_to_do(&stand) {
+        let Stand { intake, state } = refill(
             file,
             stand,
             &mut input,
@@ -137,9 +121,7 @@ pub fn work_text(
             &mut room,
             &mut events,
         );
-        let intake = filled.intake;
-        let before = filled.state;
-        let state = block::work_block(to, before, &events, elements, nodes, &mut out, lines);
+        let state = block::work_block(to, state, &events, elements, nodes, &mut out, lines);
         stand = Stand { intake, state };
     }
     stand

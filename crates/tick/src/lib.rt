@@ -1,18 +1,16 @@
 // One byte of text: the reader after it, or refused, and what stands in its room then.
 #![tactic(auto)]
 
-ghost use Rattle.std.specs.Prelude.{◌≡◌, length};
-ghost use Rattle.slots.specs.Slots.{room_needed};
+ghost use Rattle.std.specs.Prelude.{◌≡◌};
 ghost use Rattle.tick.specs.Tick.{tick};
 
 use modes::{Mode, Reader};
 
-pub fn tick(marks: &[u8; 256], r: Reader, b: u8, room: &mut [u8]) -> Reader
-    requires { length room.old ≡ room_needed }
+#[tactic(auto, unfolding(crate::specs::Tick::tick, crate::specs::Tick::tick_in))]
+pub fn tick(marks: &[u8; 256], r: Reader, b: u8, room: &mut [u8; slots::ROOM]) -> Reader
     ensures { record { reader = result; room = room.new } ≡ tick marks.now r b room.old }
 {
-    let mode = r.mode;
-    match mode {
+    match r.mode {
         Mode::Prolog(p) => prolog::tick(marks, r, p, b),
         Mode::First => tags::first(marks, r, b, room),
         Mode::Around => prolog::around(marks, r, b, Mode::Markup),

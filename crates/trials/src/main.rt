@@ -1,7 +1,8 @@
 // Runs R1, R2 and R3, and lent room that is too small, through the session's own calls and writes what came.
 #![tactic(auto)]
 
-use session::{Answer, Begun, Session, Start};
+use session::{Answer, Begun, Session, StartFault};
+use std::io;
 use std::io::Stdout;
 
 const OPENS: u8 = 1;
@@ -21,46 +22,31 @@ struct Run {
     // How many events were taken, and how many nodes they handed out.
     taken: u64,
     handed: u64,
-    // How many the last event handed out, and the refusal, or 0.
+    // How many the last event handed out.
     last: u32,
-    refusal: u8,
-}
-
-fn say(to: Stdout, word: &[u8]) {
-    system::write(to, word);
-}
-
-fn say_number(to: Stdout, n: u64) {
-    let mut text = [0u8; 20];
-    let length = io::decimal(n, &mut text);
-    system::write(to, &text[..length]);
+    refusal: Option<u8>,
 }
 
 // What begin answers: the program's line where it is refused.
-fn say_begun(to: Stdout, answer: Start) {
+fn say_begun(to: Stdout, answer: Result<(), StartFault>) -> io::Result<()> {
+    let Err(fault) = answer else {
+        return println!(to; "taken");
+    };
     let mut text = [0u8; 64];
-    let end = closing::query_line(answer, &mut text);
-    if end == 0 {
-        say(to, b"taken\n");
-    }
-    say(to, &text[..end]);
+    let end = closing::query_line(fault, &mut text);
+    to.write_all(&text[..end])
 }
 
-fn say_run(to: Stdout, run: Run) {
-    let refusal = run.refusal;
-    if 0 < refusal {
-        say(to, b"refused ");
-        say_number(to, refusal as u64);
-        say(to, b" at event ");
-        say_number(to, run.taken.wrapping_add(1));
-    } else {
-        say(to, b"all ");
-        say_number(to, run.taken);
-        say(to, b" events taken");
+fn say_run(to: Stdout, run: Run) -> io::Result<()> {
+    let taken = run.taken;
+    let handed = run.handed;
+    match run.refusal {
+        Some(r) => {
+            let event = taken.wrapping_add(1);
+            println!(to; "refused {r} at event {event}, handed out {handed}")
+        }
+        None => println!(to; "all {taken} events taken, handed out {handed}"),
     }
-    say(to, b", handed out ");
-    say_number(to, run.handed);
-    say(to, b"\n");
 }
 
 fn start(session: Session) -> Run {
@@ -69,7 +55,7 @@ fn start(session: Session) -> Run {
         taken: 0,
         handed: 0,
         last: 0,
-        refusal: 0,
+        refusal: None,
     }
 }
 
@@ -82,28 +68,25 @@ fn offer(
     nodes: &mut [u8],
     out: &mut [u8],
 ) -> Run {
-    if 0 < run.refusal {
+    if run.refusal.is_some() {
         return run;
     }
     let bytes = [kind, 0, 0, name, 0, 0, 0, 0];
-    let session = run.session;
-    let step = session.event(&bytes, elements, nodes, out);
-    let answer = step.answer;
-    let next = step.session;
-    match answer {
+    let step = run.session.event(&bytes, elements, nodes, out);
+    let session = step.session;
+    match step.answer {
         Answer::Refused(r) => Run {
-            session: next,
-            taken: run.taken,
-            handed: run.handed,
+            session,
             last: 0,
-            refusal: r,
+            refusal: Some(r),
+            ..run
         },
-        Answer::Taken(n) => Run {
-            session: next,
+        Answer::Taken(last) => Run {
+            session,
             taken: run.taken.wrapping_add(1),
-            handed: run.handed.wrapping_add(n as u64),
-            last: n,
-            refusal: 0,
+            handed: run.handed.wrapping_add(last as u64),
+            last,
+            ..run
         },
     }
 }
@@ -114,13 +97,24 @@ fn offer_d(run: Run, elements: &mut [u8], nodes: &mut [u8], out: &mut [u8]) -> R
     offer(opened, CLOSES, D, elements, nodes, out)
 }
 
-// So many empty d.
-fn offer_ds(run: Run, count: usize, elements: &mut [u8], nodes: &mut [u8], out: &mut [u8]) -> Run {
+fn open_r(run: Run, elements: &mut [u8], nodes: &mut [u8], out: &mut [u8]) -> Run {
+    offer(run, OPENS, R, elements, nodes, out)
+}
+
+// So many steps, one after the other.
+fn repeat<F: Fn(Run, &mut [u8], &mut [u8], &mut [u8]) -> Run>(
+    run: Run,
+    count: usize,
+    step: F,
+    elements: &mut [u8],
+    nodes: &mut [u8],
+    out: &mut [u8],
+) -> Run
+    requires { F.IsAlwaysCallable step }
+{
     let mut last = run;
-    let mut i: usize = 0;
-    while i < count {
-        last = offer_d(last, elements, nodes, out);
-        i += 1;
+    for _ in 0..count {
+        last = step(last, elements, nodes, out);
     }
     last
 }
@@ -134,19 +128,11 @@ fn catalogue_query() -> [u8; 24] {
     ]
 }
 
-fn begin_catalogue(to: Stdout, elements: &[u8], nodes: &[u8]) -> Session {
-    let query = catalogue_query();
-    let begun = session::begin(&query, elements, nodes);
-    let answer = begun.answer;
-    say(to, b"query ");
-    say_begun(to, answer);
-    begun.session
-}
-
-// r opens, and so many empty d come.
-fn offer_r(run: Run, count: usize, elements: &mut [u8], nodes: &mut [u8], out: &mut [u8]) -> Run {
-    let opened = offer(run, OPENS, R, elements, nodes, out);
-    offer_ds(opened, count, elements, nodes, out)
+fn begin_catalogue(to: Stdout, elements: &[u8], nodes: &[u8]) -> io::Result<Session> {
+    let begun = session::begin(&catalogue_query(), elements, nodes);
+    print!(to; "query ")?;
+    say_begun(to, begun.answer)?;
+    Ok(begun.session)
 }
 
 // "r with 1,024 empty d then c", for so many d.
@@ -156,146 +142,116 @@ fn catalogue(
     elements: &mut [u8],
     nodes: &mut [u8],
     out: &mut [u8],
-) -> Run {
-    let session = begin_catalogue(to, &*elements, &*nodes);
-    let run = offer_r(start(session), count, elements, nodes, out);
-    offer(run, OPENS, C, elements, nodes, out)
+) -> io::Result<Run> {
+    let session = begin_catalogue(to, &*elements, &*nodes)?;
+    let opened = open_r(start(session), elements, nodes, out);
+    let waiting = repeat(opened, count, offer_d, elements, nodes, out);
+    Ok(offer(waiting, OPENS, C, elements, nodes, out))
 }
 
 // Whether the first `count` list records are the nodes from `first` on, one after the other.
 fn in_a_row(records: &[u8], first: u64, count: u32) -> bool {
-    let mut i: u32 = 0;
-    while i < count {
-        let at = i as usize;
-        if records.len() < 4 * at + 4 {
+    for i in 0..count as usize {
+        if records.len() < 4 * i + 4 || lines::node_at(records, i) != first.wrapping_add(i as u64) {
             return false;
         }
-        if lines::node_at(records, at) != first.wrapping_add(at as u64) {
-            return false;
-        }
-        i += 1;
     }
     true
 }
 
 // The nodes that the last event handed out.
-fn say_nodes(to: Stdout, records: &[u8], count: u32) {
-    say_number(to, count as u64);
-    say(to, b" nodes");
-    if 0 < count {
-        if 4 <= records.len() {
-            let first = lines::node_at(records, 0);
-            if in_a_row(records, first, count) {
-                say(to, b", each from ");
-                say_number(to, first);
-                say(to, b" to ");
-                say_number(to, first.wrapping_add(count as u64 - 1));
-            } else {
-                say(to, b", not in a row");
-            }
+fn say_nodes(to: Stdout, records: &[u8], count: u32) -> io::Result<()> {
+    print!(to; "{count} nodes")?;
+    if 0 < count && 4 <= records.len() {
+        let first = lines::node_at(records, 0);
+        let last = first.wrapping_add(count as u64 - 1);
+        if in_a_row(records, first, count) {
+            print!(to; ", each from {first} to {last}")?;
+        } else {
+            print!(to; ", not in a row")?;
         }
     }
-    say(to, b"\n");
+    println!(to)
 }
 
-fn r1(to: Stdout, elements: &mut [u8], nodes: &mut [u8], out: &mut [u8]) {
-    say(to, b"R1 ");
-    let run = catalogue(to, limits::HELD, elements, nodes, out);
-    say(to, b"R1 ");
-    say_run(to, run);
-    say(to, b"R1 the opening of c handed out ");
-    say_nodes(to, &*out, run.last);
+fn r1(to: Stdout, elements: &mut [u8], nodes: &mut [u8], out: &mut [u8]) -> io::Result<()> {
+    print!(to; "R1 ")?;
+    let run = catalogue(to, limits::HELD, elements, nodes, out)?;
+    print!(to; "R1 ")?;
+    say_run(to, run)?;
+    print!(to; "R1 the opening of c handed out ")?;
+    say_nodes(to, &*out, run.last)
 }
 
-fn r2(to: Stdout, elements: &mut [u8], nodes: &mut [u8], out: &mut [u8]) {
-    say(to, b"R2 ");
-    let run = catalogue(to, limits::HELD + 1, elements, nodes, out);
-    say(to, b"R2 ");
-    say_run(to, run);
+fn r2(to: Stdout, elements: &mut [u8], nodes: &mut [u8], out: &mut [u8]) -> io::Result<()> {
+    print!(to; "R2 ")?;
+    let run = catalogue(to, limits::HELD + 1, elements, nodes, out)?;
+    print!(to; "R2 ")?;
+    say_run(to, run)
 }
 
 // "/child::r"
 fn begin_r(elements: &[u8], nodes: &[u8]) -> Begun {
-    let query = [1u8, 1, 0, 0, 0, R, 0, 0];
-    session::begin(&query, elements, nodes)
-}
-
-// So many opens, each in the one before.
-fn offer_rs(run: Run, count: usize, elements: &mut [u8], nodes: &mut [u8], out: &mut [u8]) -> Run {
-    let mut last = run;
-    let mut i: usize = 0;
-    while i < count {
-        last = offer(last, OPENS, R, elements, nodes, out);
-        i += 1;
-    }
-    last
+    session::begin(&[1u8, 1, 0, 0, 0, R, 0, 0], elements, nodes)
 }
 
 // "256 nested opens are taken, the 257th gets 5."
-fn nested(to: Stdout, elements: &mut [u8], nodes: &mut [u8], out: &mut [u8]) {
-    let begun = begin_r(&*elements, &*nodes);
-    let session = begun.session;
-    let run = offer_rs(start(session), limits::DEPTH + 1, elements, nodes, out);
-    say(to, b"R3 nested opens: ");
-    say_run(to, run);
+fn nested(to: Stdout, elements: &mut [u8], nodes: &mut [u8], out: &mut [u8]) -> io::Result<()> {
+    let first = start(begin_r(&*elements, &*nodes).session);
+    let run = repeat(first, limits::DEPTH + 1, open_r, elements, nodes, out);
+    print!(to; "R3 nested opens: ")?;
+    say_run(to, run)
 }
 
 // Byte `at` of a query whose first step is on the main path and whose others are its predicates, each child::*.
 fn step_byte(at: usize) -> u8 {
-    if at == 1 {
-        return 1;
-    }
-    if at == 2 {
-        return 0;
-    }
-    let place = at % 8;
-    match place {
-        0 | 2 => 1,
+    match at {
+        1 => 1,
+        2 => 0,
+        _ if at % 8 == 0 || at % 8 == 2 => 1,
         _ => 0,
     }
 }
 
-fn put_steps(query: &mut [u8]) {
-    let mut at: usize = 0;
-    while at < query.len() {
-        query[at] = step_byte(at);
-        at += 1;
-    }
-}
-
 // "A query of 32 steps is taken, of 33 gets 9."
-fn long_query(to: Stdout, query: &mut [u8], elements: &[u8], nodes: &[u8]) {
-    put_steps(query);
+fn long_query(to: Stdout, query: &mut [u8], elements: &[u8], nodes: &[u8]) -> io::Result<()> {
+    for (at, byte) in query.iter_mut().enumerate() {
+        *byte = step_byte(at);
+    }
+    let steps = query.len() / 8;
     let begun = session::begin(&*query, elements, nodes);
-    let answer = begun.answer;
-    say(to, b"R3 query of ");
-    say_number(to, (query.len() / 8) as u64);
-    say(to, b" steps: ");
-    say_begun(to, answer);
+    print!(to; "R3 query of {steps} steps: ")?;
+    say_begun(to, begun.answer)
 }
 
-fn queries(to: Stdout, elements: &[u8], nodes: &[u8]) {
+fn queries(to: Stdout, elements: &[u8], nodes: &[u8]) -> io::Result<()> {
     let mut most = [0u8; 256];
     let mut more = [0u8; 264];
-    long_query(to, &mut most, elements, nodes);
-    long_query(to, &mut more, elements, nodes);
+    long_query(to, &mut most, elements, nodes)?;
+    long_query(to, &mut more, elements, nodes)
 }
 
 // "A buffer of 4,099 bytes gets 1."
-fn with_buffer(to: Stdout, elements: &mut [u8], nodes: &mut [u8], out: &mut [u8]) {
-    let begun = begin_r(&*elements, &*nodes);
-    let session = begun.session;
-    say(to, b"R3 buffer of ");
-    say_number(to, out.len() as u64);
-    say(to, b" bytes: ");
-    say_run(to, offer(start(session), OPENS, R, elements, nodes, out));
+fn with_buffer(
+    to: Stdout,
+    elements: &mut [u8],
+    nodes: &mut [u8],
+    out: &mut [u8],
+) -> io::Result<()> {
+    let length = out.len();
+    let first = start(begin_r(&*elements, &*nodes).session);
+    print!(to; "R3 buffer of {length} bytes: ")?;
+    say_run(to, open_r(first, elements, nodes, out))
 }
 
-fn buffers(to: Stdout, elements: &mut [u8], nodes: &mut [u8]) {
-    let mut enough = [0u8; 4100];
-    let mut short = [0u8; 4100];
-    with_buffer(to, elements, nodes, &mut short[..limits::OUTPUT - 1]);
-    with_buffer(to, elements, nodes, &mut enough);
+fn buffers(
+    to: Stdout,
+    elements: &mut [u8],
+    nodes: &mut [u8],
+    out: &mut [u8; limits::OUTPUT],
+) -> io::Result<()> {
+    with_buffer(to, elements, nodes, &mut out[..limits::OUTPUT - 1])?;
+    with_buffer(to, elements, nodes, out)
 }
 
 // "Buffers too small for these limits get refusal 15, at the start and at any event that lends less": begin with this room, and an event for a session
@@ -306,69 +262,42 @@ fn with_room(
     elements: &mut [u8],
     nodes: &mut [u8],
     out: &mut [u8],
-) -> Session {
-    say(to, b"room of ");
-    say_number(to, elements.len() as u64);
-    say(to, b" and ");
-    say_number(to, nodes.len() as u64);
-    say(to, b" bytes: query ");
-    let begun = begin_r(&*elements, &*nodes);
-    let answer = begun.answer;
-    say_begun(to, answer);
-    let run = offer(start(session), OPENS, R, elements, nodes, out);
-    say(to, b"room of ");
-    say_number(to, elements.len() as u64);
-    say(to, b" and ");
-    say_number(to, nodes.len() as u64);
-    say(to, b" bytes: ");
-    say_run(to, run);
-    run.session
+) -> io::Result<Session> {
+    let first = elements.len();
+    let second = nodes.len();
+    print!(to; "room of {first} and {second} bytes: query ")?;
+    say_begun(to, begin_r(&*elements, &*nodes).answer)?;
+    let run = open_r(start(session), elements, nodes, out);
+    print!(to; "room of {first} and {second} bytes: ")?;
+    say_run(to, run)?;
+    Ok(run.session)
 }
 
-// Room that is a byte short for the open elements.
-fn short_elements(to: Stdout, session: Session, out: &mut [u8]) -> Session {
-    let mut elements = [0u8; 16384];
-    let mut nodes = [0u8; 32768];
-    with_room(
-        to,
-        session,
-        &mut elements[..limits::ELEMENTS_ROOM - 1],
-        &mut nodes,
-        out,
-    )
+// Too small by a byte for the open elements and for the waiting nodes, and then enough for the same session: "Refusals 1, 15 and 8 stop nothing".
+fn rooms(
+    to: Stdout,
+    elements: &mut [u8; limits::ELEMENTS_ROOM],
+    nodes: &mut [u8; limits::NODES_ROOM],
+    out: &mut [u8],
+) -> io::Result<()> {
+    let session = begin_r(&*elements, &*nodes).session;
+    let few = &mut elements[..limits::ELEMENTS_ROOM - 1];
+    let once = with_room(to, session, few, nodes, out)?;
+    let few = &mut nodes[..limits::NODES_ROOM - 1];
+    let twice = with_room(to, once, elements, few, out)?;
+    with_room(to, twice, elements, nodes, out)?;
+    Ok(())
 }
 
-// The same for the waiting nodes.
-fn short_nodes(to: Stdout, session: Session, out: &mut [u8]) -> Session {
-    let mut elements = [0u8; 16384];
-    let mut nodes = [0u8; 32768];
-    with_room(
-        to,
-        session,
-        &mut elements,
-        &mut nodes[..limits::NODES_ROOM - 1],
-        out,
-    )
-}
-
-// Too small, and then enough for the same session: "Refusals 1, 15 and 8 stop nothing".
-fn rooms(to: Stdout, elements: &mut [u8], nodes: &mut [u8], out: &mut [u8]) {
-    let begun = begin_r(&*elements, &*nodes);
-    let session = begun.session;
-    let once = short_elements(to, session, out);
-    let twice = short_nodes(to, once, out);
-    with_room(to, twice, elements, nodes, out);
-}
-
-fn main(rt: HostRuntime) {
+fn main(rt: HostRuntime) -> io::Result<()> {
     let to = rt.stdout();
-    let mut elements = [0u8; 16384];
-    let mut nodes = [0u8; 32768];
-    let mut out = [0u8; 4100];
-    r1(to, &mut elements, &mut nodes, &mut out);
-    r2(to, &mut elements, &mut nodes, &mut out);
-    nested(to, &mut elements, &mut nodes, &mut out);
-    queries(to, &elements, &nodes);
-    buffers(to, &mut elements, &mut nodes);
-    rooms(to, &mut elements, &mut nodes, &mut out);
+    let mut elements = [0u8; limits::ELEMENTS_ROOM];
+    let mut nodes = [0u8; limits::NODES_ROOM];
+    let mut out = [0u8; limits::OUTPUT];
+    r1(to, &mut elements, &mut nodes, &mut out)?;
+    r2(to, &mut elements, &mut nodes, &mut out)?;
+    nested(to, &mut elements, &mut nodes, &mut out)?;
+    queries(to, &elements, &nodes)?;
+    buffers(to, &mut elements, &mut nodes, &mut out)?;
+    rooms(to, &mut elements, &mut nodes, &mut out)
 }

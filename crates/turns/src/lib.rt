@@ -1,15 +1,31 @@
 // The program's loop over the stream: it reads, or works on what is read, until the file ends, an event is refused or standard output takes no more.
 #![tactic(auto)]
 
-ghost use Rattle.std.specs.Prelude.{◌≡◌, ◌*◌, ◌≤◌, length};
+ghost use Rattle.std.specs.Prelude.{◌≡◌, ◌*◌, ◌≤◌, length, IfOk, IfErr};
+ghost use Rattle.limits.specs.Number.{fault_of};
 ghost use Rattle.meaning.specs.Limits.{node_limit, output_needed, elements_needed, nodes_needed};
 ghost use Rattle.reads.specs.State.{UnreadWithin};
+ghost use Rattle.turns.specs.Owed.{Admitted, Declined};
 ghost use Rattle.turns.specs.Turns.{Started, more_to_do, TurnTaken, WorkedAll};
 
 use reads::State;
 use session::Session;
 use std::io::Stdout;
 use system::File;
+
+// "The query is judged first": a session for a query that is admitted, or the length of the line that answers a refused one.
+pub fn admit(query: &[u8], elements: &[u8], nodes: &[u8], text: &mut [u8]) -> Result<Session, usize>
+    requires room { (elements_needed ≤ length elements.now) × (nodes_needed ≤ length nodes.now) }
+    requires text_long { 64 ≤ length text.old }
+    ensures ok { IfOk result (λ session. Admitted query.now session) }
+    ensures err { IfErr result (λ n. Declined query.now text.new n) }
+{
+    let begun = session::begin(query, elements, nodes);
+    match begun.answer {
+        Ok(()) => Ok(begun.session),
+        Err(fault) => Err(closing::query_line(fault, text)),
+    }
+}
 
 // Works on what is read where a whole record is there, else reads once.
 fn take_turn(
@@ -27,24 +43,22 @@ fn take_turn(
     ensures { TurnTaken file.now state input.old elements.old nodes.old out.old result
         input.new elements.new nodes.new }
 {
-    let left = state.end - state.from;
-    if 8 <= left {
-        return block::work_block(to, state, &*input, elements, nodes, out, text);
+    if 8 <= state.end - state.from {
+        block::work_block(to, state, &*input, elements, nodes, out, text)
+    } else {
+        reads::read_more(file, state, input)
     }
-    reads::read_more(file, state, input)
 }
 
 // Whether there is more to do.
-fn more_to_do(refusal: u8, ended: bool, written: bool) -> bool
-    ensures { result ≡ more_to_do refusal ended written }
+#[tactic(auto, using(limits::specs::Number::Laws::some_number), unfolding(crate::specs::Turns::more_to_do, choice::specs::When::when))]
+fn more_to_do(state: &State) -> bool
+    ensures { result ≡ more_to_do (fault_of state.now.refusal) state.now.ended state.now.written }
 {
-    if refusal != 0 {
-        return false;
+    match state.refusal {
+        Some(_) => false,
+        None => !state.ended && state.written,
     }
-    if ended {
-        return false;
-    }
-    written
 }
 
 // A file need not end, but the loop does: a turn that reads gets a byte or is the last, a turn that works takes an event or is the last, and no
@@ -69,11 +83,12 @@ pub fn work_all(
         from: 0,
         end: 0,
         taken: 0,
-        refusal: 0,
+        refusal: None,
         ended: false,
         written: true,
     };
-    'turns: while more_to_do(state.refusal, state.ended, state.written) {
+    // Kept: how many turns there are is for the file and the events to say, so there is nothing that a `for` could go over (d).
+    'turns: while more_to_do(&state) {
         state = take_turn(file, to, state, input, elements, nodes, out, text);
     }
     state

@@ -14,6 +14,7 @@ use Rattle.choice.specs.When.{when_true, when_known, when_either}
 use Rattle.chars.specs.Marks.{marked, span}
 use Rattle.slots.specs.Slots.{name_bytes, base_of, length_in}
 use Rattle.slots.specs.Copied.{Copied, copied, Agreed, agreed, name_mark}
+use Rattle.limits.specs.Number.{text_of}
 use Rattle.modes.specs.declared.Reader.{Reader}
 use Rattle.tick.specs.Tick.{tick}
 use Rattle.walk.specs.declared.Pace.{Pace}
@@ -79,14 +80,14 @@ module _ (M : List ℕ) (r : Reader) (t : List ℕ) (at : ℕ) (R : List ℕ) (l
       (λ e.
       let x = tick M (here_after r w) (get_or t w.at 0) w.room in
       let k : w.at < length t = leb-false _ _ e in
-      when_either (Between at (length t)) (eqb x.reader.refusal 0) (w.at + 1) w.at (omega (arith, inside.0), omega arith) inside)
+      when_either (Between at (length t)) (eqb (text_of x.reader.refusal) 0) (w.at + 1) w.at (omega (arith, inside.0), omega arith) inside)
 
-  pub turned_on : at < length t → (turned M r t at R).reader.refusal ≡ 0 → at < (turned M r t at R).at
+  pub turned_on : at < length t → text_of (turned M r t at R).reader.refusal ≡ 0 → at < (turned M r t at R).at
   unfolding turned turned_from ticked_at w
   turned_on h =
-      when_known (λ (z : Turned). z.reader.refusal ≡ 0 → at < z.at) (leb (length t) w.at) _ _
+      when_known (λ (z : Turned). text_of z.reader.refusal ≡ 0 → at < z.at) (leb (length t) w.at) _ _
       (λ e f. let k : length t ≤ w.at = leb-true _ _ e in omega arith)
       (λ e f.
       let x = tick M (here_after r w) (get_or t w.at 0) w.room in
-      subst (λ n. at < n) (sym (when_true (eqb x.reader.refusal 0) (w.at + 1) w.at (eq-eqb _ 0 f)))
+      subst (λ n. at < n) (sym (when_true (eqb (text_of x.reader.refusal) 0) (w.at + 1) w.at (eq-eqb _ 0 f)))
       (let z : at < w.at + 1 = omega (arith, inside.0) in z))

@@ -4,8 +4,7 @@
 --   owed_records names text   all that is written to standard output
 --   Complained v             the refusal's line was handed to standard error; nothing where there is none
 --   more_to_do refusal ended written      another turn is taken
---   Written N X file i       the turns have come to the end of the text, or to a refused byte, and all records of its events are delivered
---   Stood N X file s         Written; or standard output failed
+--   ReadAll N X file i       the turns have come to the end of the text, or to a refused byte, and all records of its events are delivered
 --   TextAnswered N X v       the text was read, v is the verdict on it, and the records of its events are delivered; or Failed
 --   Answered v               the same with the list of names
 --   Completed                the files were read, and what is owed for the bytes that the reads gave was handed to standard output, piece by piece, and
@@ -15,7 +14,7 @@
 -- Assumes nothing. NOT here: the verdict on a text and its events' records (crate intake, Owed), that on a list (crate listed), the line's bytes (crate lines,
 -- Text), what "given", "handed" and "delivered" are, and `Failed`, that standard output did not take all that was handed to it (crate system, Marks).
 pub mod Laws
-use Rattle.std.specs.Prelude.{ℕ, ◌+◌, ◌≤◌, ◌⊎◌, ◌≡◌, Bool, true, false, List, [], eqb}
+use Rattle.std.specs.Prelude.{ℕ, ◌+◌, ◌≤◌, ◌⊎◌, ◌≡◌, Bool, false, List, [], Option, None, Some, eqb}
 use Rattle.choice.specs.When.{when}
 use Rattle.xml.specs.Grammar.{Ev}
 use Rattle.listed.specs.Listed.{list_answer}
@@ -25,50 +24,44 @@ use Rattle.lines.specs.Text.{refused_at_line}
 use Rattle.system.specs.declared.File.{File}
 use Rattle.system.specs.Marks.{ErrorTold, Delivered, Failed}
 use Rattle.intake.specs.declared.Intake.{Intake}
-use Rattle.intake.specs.declared.Verdict.{Verdict}
-use Rattle.intake.specs.Owed.{nothing, text_verdict, text_events, text_records}
+use Rattle.intake.specs.Owed.{Judged, refused_at, text_verdict, text_events, text_records}
 use Rattle.intake.specs.Names.{NamesRead}
 use Rattle.intake.specs.Intake.{longest}
 use Rattle.intake.specs.Catalogue.{CatalogueRead, Told}
-use Rattle.xml_events.specs.declared.Stand.{Stand}
 
 -- the list is judged first
-unfoldable pub verdict_on : List ℕ → List ℕ → Verdict
+unfoldable pub verdict_on : List ℕ → List ℕ → Option Judged
 verdict_on names text =
-    when (eqb (list_answer names).refusal 0) (text_verdict text) (record { refusal = (list_answer names).refusal; at = (list_answer names).line })
+    when (eqb (list_answer names).refusal 0) (text_verdict text) (refused_at (list_answer names).refusal (list_answer names).line)
 
 unfoldable pub owed_records : List ℕ → List ℕ → List ℕ
 owed_records names text = when (eqb (list_answer names).refusal 0) (text_records names text) []
 
 -- the line is `refused R at E`
-pub data Complained (v : Verdict) : Type 0 where
-  silent : v.refusal ≡ 0 → Complained v
-  said : (taken : Bool) → ErrorTold (refused_at_line v.refusal v.at) taken → Complained v
+pub data Complained : Option Judged → Type 0 where
+  silent : Complained None
+  said : {v : Judged} (taken : Bool) → ErrorTold (refused_at_line v.refusal v.at) taken → Complained (Some v)
 
 unfoldable pub more_to_do : ℕ → Bool → Bool → Bool
 more_to_do refusal ended written = when (eqb refusal 0) (when ended false written) false
 
-pub record Written (N X : List ℕ) (file : File) (i : Intake) : Type 0 where
+pub record ReadAll (N X : List ℕ) (file : File) (i : Intake) : Type 0 where
+  pub few : i.taken ≤ longest + 65536
   pub events : List Ev
   pub told : Told file i events
   pub delivered : Delivered (records_in (number_of N X) events)
 
-pub record Stood (N X : List ℕ) (file : File) (s : Stand) : Type 0 where
-  pub few : s.intake.taken ≤ longest + 65536
-  pub written_so : s.written ≡ true → Written N X file s.intake
-  pub failed : s.written ≡ false → Failed
-
-pub record TextLined (N X : List ℕ) (v : Verdict) : Type 0 where
+pub record TextLined (N X : List ℕ) (v : Option Judged) : Type 0 where
   pub text : List ℕ
   pub text_read : CatalogueRead text
   pub verdict_so : v ≡ text_verdict text
   pub delivered : Delivered (records_in (number_of N X) (text_events text))
 
-abbrev pub TextAnswered : List ℕ → List ℕ → Verdict → Type 0
-TextAnswered N X v = TextLined N X v ⊎ (Failed × (v ≡ nothing))
+abbrev pub TextAnswered : List ℕ → List ℕ → Option Judged → Type 0
+TextAnswered N X v = TextLined N X v ⊎ (Failed × (v ≡ None))
 
 -- a text is read only for a list that is taken
-pub record Lined (v : Verdict) : Type 0 where
+pub record Lined (v : Option Judged) : Type 0 where
   pub names : List ℕ
   pub text : List ℕ
   pub names_read : NamesRead names
@@ -76,8 +69,8 @@ pub record Lined (v : Verdict) : Type 0 where
   pub verdict_so : v ≡ verdict_on names text
   pub delivered : Delivered (owed_records names text)
 
-abbrev pub Answered : Verdict → Type 0
-Answered v = Lined v ⊎ (Failed × (v ≡ nothing))
+abbrev pub Answered : Option Judged → Type 0
+Answered v = Lined v ⊎ (Failed × (v ≡ None))
 
 pub record Completed : Type 0 where
   pub names : List ℕ

@@ -4,33 +4,21 @@
 
 ghost use Rattle.std.specs.Prelude.{◌≤◌, length};
 
+use limits::TextRefusal;
 use modes::Reader;
+use std::io;
 use std::io::Stdout;
 use system::File;
-
-fn say(to: Stdout, word: &[u8]) {
-    system::write(to, word);
-}
-
-// More than there is, is all that there is.
-fn at_most(wanted: usize, all: usize) -> usize
-    ensures { (result ≤ wanted) × (result ≤ all) }
-{
-    if wanted < all {
-        return wanted;
-    }
-    all
-}
 
 // How far a text is read.
 #[derive(Clone, Copy)]
 struct Trace {
     reader: Reader,
     taken: u64,
-    refusal: u8,
+    refusal: Option<TextRefusal>,
 }
 
-// One feed, from `at` on, and its events.
+// One feed, from `at` on, and its events. No more room is lent than there is.
 fn feed_once(
     to: Stdout,
     trace: Trace,
@@ -40,18 +28,16 @@ fn feed_once(
     room: &mut [u8],
     out: &mut [u8],
     lent: usize,
-) -> Trace {
-    let reader = trace.reader;
-    let some = at_most(lent, out.len());
-    let fed = reader::feed(reader, text, names, index, room, &mut out[..some]);
-    let written = at_most(fed.written, some);
-    say(to, &out[..written]);
-    let next = fed.reader;
-    Trace {
-        reader: next,
+) -> io::Result<Trace> {
+    let some = lent.min(out.len());
+    let fed = reader::feed(trace.reader, text, names, index, room, &mut out[..some]);
+    let written = fed.written.min(some);
+    to.write_all(&out[..written])?;
+    Ok(Trace {
+        reader: fed.reader,
         taken: trace.taken.wrapping_add(fed.taken as u64),
         refusal: fed.refusal,
-    }
+    })
 }
 
 // A block, in as many feeds as the room for events asks for; each takes a byte. Of a refused text nothing more is fed.
@@ -64,17 +50,18 @@ fn feed_block(
     room: &mut [u8],
     out: &mut [u8],
     lent: usize,
-) -> Trace {
-    let start = trace.taken;
+) -> io::Result<Trace> {
     let mut now = trace;
     let mut at: usize = 0;
-    let mut left = text.len();
-    while 0 < left && now.refusal == 0 && at < text.len() {
-        now = feed_once(to, now, &text[at..], names, index, room, out, lent);
-        at = at_most(now.taken.wrapping_sub(start) as usize, text.len());
-        left -= 1;
+    for _ in 0..text.len() {
+        if now.refusal.is_some() || text.len() <= at {
+            break;
+        }
+        now = feed_once(to, now, &text[at..], names, index, room, out, lent)?;
+        let taken = now.taken.wrapping_sub(trace.taken) as usize;
+        at = taken.min(text.len());
     }
-    now
+    Ok(now)
 }
 
 // What a header says: how many bytes the text has, how many are given at a time, and room for how many bytes of events.
@@ -83,37 +70,33 @@ struct Case {
     length: usize,
     block: usize,
     room: usize,
-    there: bool,
 }
 
-fn next_case(file: &File) -> Case {
+fn next_case(file: &File) -> Option<Case> {
     let mut header = [0u8; 8];
-    let n = system::read_full(file, &mut header);
+    if system::read_full(file, &mut header) < 8 {
+        return None;
+    }
     let length = lines::node_at(&header, 0) as usize;
     let both = lines::node_at(&header, 1) as usize;
-    Case {
+    Some(Case {
         length,
         block: both / 65536,
         room: 8 * (both % 65536),
-        there: n == 8,
-    }
+    })
 }
 
 // 0 is as many as fit.
 fn block_of(block: usize, fits: usize) -> usize {
-    if block == 0 {
-        return fits;
-    }
-    block
+    if block == 0 { fits } else { block }
 }
 
 // Some bytes of the text, as many as there is room for at most. Answers how many came.
 fn read_block(file: &File, wanted: usize, text: &mut [u8]) -> usize
     ensures { (result ≤ wanted) × (result ≤ length text.new) }
 {
-    let most = at_most(wanted, text.len());
-    let got = system::read_full(file, &mut text[..most]);
-    at_most(got, most)
+    let most = wanted.min(text.len());
+    system::read_full(file, &mut text[..most])
 }
 
 // A text, block by block.
@@ -126,75 +109,64 @@ fn read_case(
     index: &[u32],
     room: &mut [u8],
     out: &mut [u8],
-) -> Trace {
-    let start = reader::begin();
+) -> io::Result<Trace> {
     let mut trace = Trace {
-        reader: start,
+        reader: reader::begin(),
         taken: 0,
-        refusal: 0,
+        refusal: None,
     };
     let block = block_of(case.block, text.len());
     let mut left = case.length;
+    // Kept: a `for` is no plainer, since how far a turn goes is for the system to say.
     while 0 < left {
-        let wanted = at_most(block, left);
-        let got = read_block(file, wanted, text);
+        let got = read_block(file, block.min(left), text);
         if got == 0 {
-            return trace;
+            break;
         }
         left -= got;
-        trace = feed_block(to, trace, &text[..got], names, index, room, out, case.room);
+        trace = feed_block(to, trace, &text[..got], names, index, room, out, case.room)?;
     }
-    trace
+    Ok(trace)
 }
 
-fn say_closing(to: Stdout, refusal: u8, at: u64) {
+fn say_closing(to: Stdout, refusal: u8, at: u64) -> io::Result<()> {
     let mut record = [255, refusal, 0, 0, 0, 0, 0, 0];
-    record[4] = (at / 16777216 % 256) as u8;
-    record[5] = (at / 65536 % 256) as u8;
-    record[6] = (at / 256 % 256) as u8;
-    record[7] = (at % 256) as u8;
-    say(to, &record);
+    record[4..].copy_from_slice(&at.to_be_bytes()[4..]);
+    to.write_all(&record)
 }
 
 // What the end of the text came to.
-fn say_end(to: Stdout, trace: Trace) {
-    let reader = trace.reader;
-    let finished = reader::finish(reader);
-    let mut refusal = trace.refusal;
-    if refusal == 0 {
-        refusal = finished.refusal;
-    }
-    if refusal == 0 {
-        say_closing(to, 0, 0);
-    } else {
-        say_closing(to, refusal, trace.taken.wrapping_add(1));
+fn say_end(to: Stdout, trace: Trace) -> io::Result<()> {
+    let ended = reader::finish(trace.reader).refusal;
+    match trace.refusal.or(ended) {
+        Some(refusal) => say_closing(to, refusal.number(), trace.taken.wrapping_add(1)),
+        None => say_closing(to, 0, 0),
     }
 }
 
 // Nothing says that a file ends. So the loop counts the cases up to a number that no file has.
-fn read_all(to: Stdout, file: &File, names: &[u8], index: &[u32]) {
+fn read_all(to: Stdout, file: &File, names: &[u8], index: &[u32]) -> io::Result<()> {
     let mut text = [0u8; 65536];
     let mut room = [0u8; 18496];
     let mut out = [0u8; 65536];
-    let mut case = next_case(file);
-    let mut number: u64 = 0;
-    while case.there && number < u64::MAX {
-        let trace = read_case(to, file, case, &mut text, names, index, &mut room, &mut out);
-        say_end(to, trace);
-        case = next_case(file);
-        number += 1;
+    for _ in 0..u64::MAX {
+        let Some(case) = next_case(file) else {
+            break;
+        };
+        let trace = read_case(to, file, case, &mut text, names, index, &mut room, &mut out)?;
+        say_end(to, trace)?;
     }
+    Ok(())
 }
 
-fn main(rt: HostRuntime) {
+fn main(rt: HostRuntime) -> io::Result<()> {
     let to = rt.stdout();
     let mut names = intake::names_room();
     let mut index = intake::index_room();
     let n = intake::read_names(&rt, &mut names);
-    let listing = names::build(&names[..n], &mut index);
-    if listing.refusal == 0 {
+    if names::build(&names[..n], &mut index).is_ok() {
         let file = system::open(&rt, b"cases.bin");
-        read_all(to, &file, &names[..n], &index);
-        system::close(file);
+        read_all(to, &file, &names[..n], &index)?;
     }
+    Ok(())
 }

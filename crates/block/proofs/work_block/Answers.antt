@@ -7,15 +7,15 @@ use Rattle.block.proofs.work_block.Goals as goal
 pub overflow_add-result-2 : goal.overflow_add-result-2
 overflow_add-result-2 c =
     let a = c.args in
-    let within = c.requires.unread_within.0 in
     let short = part_short a.input.now a.state.from a.state.end in
-    let few : c.work-block.result.ran.taken ≤ 65536 =
-    omega (arith, short, c.work-block.ensures.taken_in_bounds, within.inside, c.requires.input_len_bound.0)
+    let few : c.run-ran.result.taken ≤ 65536 =
+    omega (arith, short, c.run-ran.ensures.taken_in_bounds.0, c.requires.unread_within.0.inside, c.requires.input_len_bound.0)
     in omega (arith, few, node_limit_is, c.requires.input_len_bound.1)
 
 pub returns : goal.returns
 returns c =
     let a = c.args in
-    let work = c.work-block in
-    worked_so a.state a.input.now a.elements.now a.nodes.now a.out.now work.result.ran _ _ _ _ _ work.result.length _
-    c.requires.unread_within.0 work.ensures.run_gives work.ensures.taken_in_bounds work.ensures.put work.ensures.prefix_len.0 c.write_text-written.ensures
+    let run = c.run-ran in
+    let lines = c.put_lines-length.ensures in
+    worked_so a.state a.input.now a.elements.now a.nodes.now a.out.now run.result _ _ _ _ _ c.put_lines-length.result _
+    c.requires.unread_within.0 run.ensures.run_gives run.ensures.taken_in_bounds.0 lines.put lines.prefix_len.0 c.write-written.ensures

@@ -1,34 +1,24 @@
--- `clear` writes 0 to the heads one by one. The invariant: so many of them are 0, and the other words as they were.
--- Assumes nothing.
+-- `clear` fills the heads with 0. Assumes nothing.
+use Prim.Native.Nat.{ℕ, ◌≤◌}
 use native.Mathlib.Omega.{arith}
-use mathlib.Core.Path.{◌≡◌, ap, ◌∙◌}
-use mathlib.Core.List.{◌++◌}
-use borrow.Author.Fill.{fill_none, fill_more}
-use lib.ListN.{drop, set, replicate, length-set}
+use mathlib.Core.Path.{◌≡◌, sym, ap, ◌∙◌}
+use mathlib.Core.List.{List, ◌++◌}
+use lib.ListN.{length, take, drop, replicate}
+use lib.Seq.{length-take-le}
 use Rattle.spelling.specs.Bucket.{buckets}
 use Rattle.spelling.specs.Bucket.Laws.{buckets_is}
 use Rattle.chains.specs.Index.{cleared}
 use Rattle.chains.proofs.Index.Room.{index_words_is}
 use Rattle.chains.proofs.clear.Goals as goal
 
-pub loop-i-init : goal.loop-i-init
-loop-i-init c = ((omega arith, omega arith), fill_none _ 0)
+-- n words at the front filled with 0, where so many are the heads
+filled : (x y : List ℕ) (n : ℕ) → n ≡ buckets → n ≤ length x → y ≡ replicate (length (take n x)) 0 → y ++ drop n x ≡ cleared x
+unfolding cleared
+filled x y n all enough made =
+    ap (λ t. t ++ drop n x) (made ∙ ap (λ k. replicate k 0) (length-take-le n x enough)) ∙ ap (λ k. replicate k 0 ++ drop k x) all
 
-pub loop-i-preserved : goal.loop-i-preserved
-loop-i-preserved c =
-    let index = c.args.index.now in (
-      (omega (arith, buckets_is), length-set c.loop-i.index c.loop-i.i 0 ∙ c.loop-i.invariant.0.1),
-      ap (λ l. set l c.loop-i.i 0) c.loop-i.invariant.1 ∙ fill_more c.loop-i.i 0 index (omega (arith, index_words_is)),
-    )
+pub slice_bounds-fill-end-2 : goal.slice_bounds-fill-end-2
+slice_bounds-fill-end-2 c = sym (length-take-le _ c.args.index.now (omega (arith, index_words_is)))
 
 pub returns : goal.returns
-unfolding cleared
-returns c =
-    let all : c.loop-i.i ≡ buckets = omega (arith, buckets_is) in
-    c.loop-i.invariant.1 ∙ ap (λ k. replicate k 0 ++ drop k c.args.index.now) all
-
-pub bounds-index-i : goal.bounds-index-i
-bounds-index-i c = omega (arith, index_words_is)
-
-pub loop-i-smaller : goal.loop-i-smaller
-loop-i-smaller c = omega (arith, buckets_is)
+returns c = filled c.args.index.now _ 65536 (sym buckets_is) (omega (arith, index_words_is)) (c.fill.ensures.after (λ y e. e))

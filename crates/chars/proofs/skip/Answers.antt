@@ -1,28 +1,25 @@
 -- What is left to skip is the whole of it. Assumes nothing.
 use native.Mathlib.Omega.{arith}
-use mathlib.Core.Path.{refl, sym, ◌∙◌}
-use lib.ListN.{get_or}
-use Rattle.chars.specs.Marks.Laws.{unmarked, is_marked, span_on, span_stop, span_end}
+use mathlib.Core.Path.{◌≡◌, refl, sym, ◌∙◌}
+use lib.ListN.{length}
+use Rattle.chars.specs.Marks.Laws.{span_on, span_stop, span_end}
 use Rattle.chars.proofs.skip.Goals as goal
 
 pub loop-i-init : goal.loop-i-init
-loop-i-init c = (omega arith, refl)
+loop-i-init c = refl
 
-pub returns-then-marks-b-eq0 : goal.returns-then-marks-b-eq0
-returns-then-marks-b-eq0 c =
+pub returns-then-not-has : goal.returns-then-not-has
+returns-then-not-has c =
     let a = c.args in
-    let i = c.loop-i.i in
-    let b = get_or a.text.now i 0 in
-    sym (c.loop-i.invariant.1 ∙ span_stop a.marks.now a.mark a.text.now i (omega arith) (unmarked a.marks.now b a.mark c.if-marks-b-eq0.true))
+    sym (c.loop-i.invariant ∙ span_stop a.marks.now a.mark a.text.now c.loop-i.i (omega arith) (sym c.has.ensures ∙ c.if-not-has.true))
 
 pub loop-i-preserved : goal.loop-i-preserved
 loop-i-preserved c =
     let a = c.args in
-    let i = c.loop-i.i in
-    let b = get_or a.text.now i 0 in
-    (omega arith, c.loop-i.invariant.1 ∙ span_on a.marks.now a.mark a.text.now i (omega arith) (is_marked a.marks.now b a.mark c.if-marks-b-eq0.false))
+    c.loop-i.invariant ∙ span_on a.marks.now a.mark a.text.now c.loop-i.i (omega arith) (sym c.has.ensures ∙ c.if-not-has.false)
 
 pub returns : goal.returns
 returns c =
     let a = c.args in
-    sym (c.loop-i.invariant.1 ∙ span_end a.marks.now a.mark a.text.now c.loop-i.i (omega arith))
+    let all : c.loop-i.i ≡ length a.text.now = omega arith in
+    sym (c.loop-i.invariant ∙ span_end a.marks.now a.mark a.text.now c.loop-i.i (omega arith) ∙ all)

@@ -2,6 +2,7 @@
 --
 --   whole             the shape is one that the laws of records speak of
 --   room_is           the records take just the room that is needed (crate meaning, Limits)
+--   place_within      a field is among the first 6 numbers
 --   get_is, put_is    a number read is a field read, a number written a field written
 --   raise_parts, refresh_part, open_parts      the writes of one call together
 --   frames_length     how many records there are
@@ -18,7 +19,9 @@ use Rattle.words.specs.Words.{words, Bytes}
 use Rattle.words.specs.Records.{set_at, room, with_field, put_at, laid}
 use Rattle.words.specs.Records.Laws as records
 use Rattle.words.specs.Records.Laws.{Whole}
-use Rattle.element.specs.Element.{frame_of, field_of, shape, Elements, elements_in, frame_at, raised_in, refreshed_in, opened_in}
+use Rattle.element.specs.declared.Field.{Field}
+use Rattle.element.specs.declared.Field.TheVariants.{Name, Pass, Below, Met, Sure, Possible}
+use Rattle.element.specs.Element.{frame_of, place, field_of, shape, Elements, elements_in, frame_at, raised_in, refreshed_in, opened_in}
 
 same_frame :
     (r s : ℕ → ℕ) → r 0 ≡ s 0 → r 1 ≡ s 1 → r 2 ≡ s 2 → r 3 ≡ s 3 → r 4 ≡ s 4 → r 5 ≡ s 5 → frame_of r ≡ frame_of s
@@ -50,6 +53,14 @@ room_is = omega arith
 pub frames_length : (bs : List ℕ) → length (elements_in bs).list ≡ depth_limit
 unfolding elements_in
 frames_length bs = records.list_length shape whole bs
+
+pub place_within : (g : Field) → place g < 6
+place_within Name = omega arith
+place_within Pass = omega arith
+place_within Below = omega arith
+place_within Met = omega arith
+place_within Sure = omega arith
+place_within Possible = omega arith
 
 pub get_is :
     (bs : List ℕ) (i g r : ℕ) → i < depth_limit → g < 6 → r ≡ get_or (words bs) (16 * i + g) 0 → r ≡ field_of g (frame_at (elements_in bs) i)

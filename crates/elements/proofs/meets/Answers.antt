@@ -1,23 +1,17 @@
--- The loop collects the steps one by one. Assumes nothing.
-use native.Mathlib.Omega.{arith}
-use mathlib.Core.Path.{ap}
+-- Each call answers the test of its step. Assumes nothing.
+use Rattle.std.proofs.Common.{rules, ℕ, ◌≡◌}
 use lib.Bits.{bit_and}
-use lib.Dec.{eqb}
-use Rattle.sets.specs.Set.{covers}
-use Rattle.sets.proofs.Collect.{collect_none, collect_all}
-use Rattle.choice.specs.Collect.{collect_told}
-use Rattle.plan.specs.Plan.{meets}
+use lib.ListN.{get_or, length}
+use Rattle.sets.specs.Set.{covers, mask_of}
+use Rattle.sets.proofs.Collect.{mask_of_calls}
+use Rattle.plan.specs.Plan.{Plan, meets}
 use Rattle.elements.proofs.meets.Goals as goal
 
-pub loop-place-init : goal.loop-place-init
-loop-place-init c = (omega arith, collect_none _)
-
-pub loop-place-preserved : goal.loop-place-preserved
-unfolding covers
-loop-place-preserved c =
-    let below = c.args.below in
-    (omega arith, collect_told 32 _ (omega arith) (ap (λ h. eqb (bit_and h below) h) c.hung-on.ensures) c.loop-place.invariant.1)
+-- the steps with the right predicates below, by how many steps there are
+met : (P : Plan) (pass below n hit : ℕ) → n ≡ length P.tests → hit ≡ mask_of n (λ t. covers below (get_or P.hung t 0)) → bit_and hit pass ≡ meets P pass below
+unfolding meets
+met P pass below n hit e h = rw (h, e)
 
 pub returns : goal.returns
-unfolding meets
-returns c = ap (λ r. bit_and r c.args.pass) (collect_all _ (omega arith) c.loop-place.invariant.1)
+unfolding covers
+returns c = met _ _ _ _ _ c.size.ensures.0 (mask_of_calls _ c.collected-hit.ensures (λ t b l e. search rules))

@@ -8,4 +8,4 @@ use Rattle.elements.proofs.one_asking.Goals as goal
 pub returns : goal.returns
 returns c =
     let args = c.args in
-    flag_shift 32 _ _ c.requires.1 ∙ ap (λ n. only_if (eqb n args.x) args.place) c.name.ensures
+    flag_shift 32 _ _ c.requires ∙ ap (λ n. only_if (eqb n args.x) args.place) c.name.ensures

@@ -2,7 +2,8 @@
 --
 --   rise_stop, rise_step, rise_done     nothing new; something new, and m is met with it; no element left
 --   refresh_step, refresh_done          one element more; none left
---   sure_first, sure_other, possible_first, possible_other     what is read at level 0, and at another
+--   ready_first, ready_other            what is read at level 0, and at another
+--   sure_front, possible_front          what is read at a level is read off the elements up to it
 --   push_parts                          from what each call answered, the whole of what the push does
 --
 -- Assumes nothing.
@@ -14,7 +15,7 @@ use Rattle.std.proofs.Common.{◌∙◌, take-suc, drop-cons, drop-set-lt, lengt
 use mathlib.Core.List.{List, [], ◌∷◌, ◌++◌, map, append_assoc, append-nil, map-append}
 use Rattle.std.proofs.Math.ListN.{length, get_or, take, drop, length-append, length-map, take-append-drop, get_or-map, get_or-append}
 use Rattle.std.specs.Prelude.{set}
-use Rattle.std.proofs.lemmas.List.{take-set-le, set_split, set_at}
+use Rattle.std.proofs.lemmas.List.{get_or-replicate, take-set-le, set_split, set_at}
 use Rattle.std.proofs.Math.Seq.{take_at, drop_at}
 use Rattle.choice.specs.Count.{left, gone, down}
 use Rattle.meaning.specs.Limits.{depth_limit}
@@ -22,9 +23,9 @@ use Rattle.sets.specs.Set.{join, meet, without}
 use Rattle.plan.specs.Plan.{Plan, named, meets, lift, turn}
 use Rattle.engine.specs.Quick.{Frame, Rise, raised, rise, refreshed, refresh, fresh, frames_after, sure_at, possible_at}
 use Rattle.engine.proofs.Quick.Snoc.{rise_snoc_stop, rise_snoc_on, rise_length}
-use Rattle.element.specs.Element.{Elements, elements_in, no_frame, frame_at, raised_in, refreshed_in, opened_in}
+use Rattle.element.specs.Element.{Elements, elements_in, field_of, no_frame, frame_at, raised_in, refreshed_in, opened_in}
 use Rattle.element.specs.Element.Laws.{frames_length}
-use Rattle.elements.specs.Elements.{with, Risen, risen_by, risen_in, refreshed_from, pushed_in}
+use Rattle.elements.specs.Elements.{with, ready_at, Risen, risen_by, risen_in, refreshed_from, pushed_in}
 
 -- the first j + 1 are the first j and one more
 snoc : (l : List Frame) (at : ℕ) → 0 < at → at ≤ length l → take at l ≡ take (at - 1) l ++ (get_or l (at - 1) no_frame ∷ [])
@@ -127,36 +128,32 @@ module _ (P : Plan) (ready at to : ℕ) (E : Elements) where
 -- what is read at a level
 
 module _ (P : Plan) (fs : List Frame) where
-  pub sure_first : (level r : ℕ) → level ≡ 0 → r ≡ P.first → r ≡ sure_at P fs level
-  unfolding sure_at
-  sure_first level r z e = e ∙ ap (λ l. get_or (P.first ∷ map (λ f. f.sure) fs) l 0) (sym z)
+  module _ (g : ℕ) where
+    pub ready_first : (level r : ℕ) → level ≡ 0 → r ≡ P.first → r ≡ ready_at g P fs level
+    unfolding ready_at
+    ready_first level r z e = e ∙ ap (ready_at g P fs) (sym z)
 
-  pub possible_first : (level r : ℕ) → level ≡ 0 → r ≡ P.first → r ≡ possible_at P fs level
-  unfolding possible_at
-  possible_first level r z e = e ∙ ap (λ l. get_or (P.first ∷ map (λ f. f.possible) fs) l 0) (sym z)
+    pub ready_other : (level r : ℕ) → g < 6 → 0 < level → r ≡ field_of g (get_or fs (level - 1) no_frame) → r ≡ ready_at g P fs level
+    unfolding ready_at
+    ready_other level r few h e =
+        e ∙ sym (get_or-map (field_of g) fs (level - 1) no_frame)
+        ∙ ap (get_or (map (field_of g) fs) (level - 1)) (get_or-replicate 6 g 0 0 few)
+        ∙ ap (λ l. get_or (P.first ∷ map (field_of g) fs) l 0) (sym (down level h))
 
-  pub sure_other : (level r : ℕ) → 0 < level → r ≡ (get_or fs (level - 1) no_frame).sure → r ≡ sure_at P fs level
-  unfolding sure_at
-  sure_other level r h e =
-      e ∙ sym (get_or-map (λ f. f.sure) fs (level - 1) no_frame) ∙ ap (λ l. get_or (P.first ∷ map (λ f. f.sure) fs) l 0) (sym (down level h))
+    -- what is read at a level is read off the elements up to it
+    ready_front : (gs : List Frame) (level : ℕ) → level ≤ length fs → ready_at g P (fs ++ gs) level ≡ ready_at g P fs level
+    unfolding ready_at
+    ready_front gs level h =
+        ap (λ xs. get_or (P.first ∷ xs) level 0) (map-append (field_of g) fs gs)
+        ∙ get_or-append (P.first ∷ map (field_of g) fs) (map (field_of g) gs) 0 level (omega (arith, length-map fs (field_of g)))
 
-  pub possible_other : (level r : ℕ) → 0 < level → r ≡ (get_or fs (level - 1) no_frame).possible → r ≡ possible_at P fs level
-  unfolding possible_at
-  possible_other level r h e =
-      e ∙ sym (get_or-map (λ f. f.possible) fs (level - 1) no_frame) ∙ ap (λ l. get_or (P.first ∷ map (λ f. f.possible) fs) l 0) (sym (down level h))
-
-  -- what is read at a level is read off the elements up to it
   pub sure_front : (gs : List Frame) (level : ℕ) → level ≤ length fs → sure_at P (fs ++ gs) level ≡ sure_at P fs level
-  unfolding sure_at
-  sure_front gs level h =
-      ap (λ xs. get_or (P.first ∷ xs) level 0) (map-append (λ f. f.sure) fs gs)
-      ∙ get_or-append (P.first ∷ map (λ f. f.sure) fs) (map (λ f. f.sure) gs) 0 level (omega (arith, length-map fs (λ f. f.sure)))
+  unfolding sure_at ready_at
+  sure_front = ready_front 4
 
   pub possible_front : (gs : List Frame) (level : ℕ) → level ≤ length fs → possible_at P (fs ++ gs) level ≡ possible_at P fs level
-  unfolding possible_at
-  possible_front gs level h =
-      ap (λ xs. get_or (P.first ∷ xs) level 0) (map-append (λ f. f.possible) fs gs)
-      ∙ get_or-append (P.first ∷ map (λ f. f.possible) fs) (map (λ f. f.possible) gs) 0 level (omega (arith, length-map fs (λ f. f.possible)))
+  unfolding possible_at ready_at
+  possible_front = ready_front 5
 
 -- the calls of a push
 

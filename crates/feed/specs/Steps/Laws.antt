@@ -29,6 +29,7 @@ use Rattle.numbers.specs.Numbers.{Numbers}
 use Rattle.step.specs.Step.{After, after}
 use Rattle.stop.specs.Stop.{marked_by, guarded}
 use Rattle.stop.specs.Stop.Laws.{refused_marked, marked_said, guarded_said}
+use Rattle.limits.specs.Number.Laws.{fault_one}
 use Rattle.feed.specs.declared.Fed as struct
 use Rattle.feed.specs.Fed.{Came, Fed}
 use Rattle.feed.specs.Steps.{Seat, seat, came, stopped_at, came_to, step_at, Whole, FeedGives}
@@ -108,7 +109,7 @@ feed_one P s es out r r' t t' o o' g g' =
     let e = g ∙ sym g' in
     let e-taken = ap (λ (f : Fed Seat). f.taken) e in
     let e-listed = ap (λ (f : Fed Seat). f.listed) e in
-    let e-refusal = ap (λ (f : Fed Seat). f.refusal) e in (
+    let e-refusal = fault_one r.refusal r'.refusal (ap (λ (f : Fed Seat). f.refusal) e) in (
       λ i. record { taken = e-taken i; listed = e-listed i; refusal = e-refusal i },
       (ap (λ (f : Fed Seat). f.seat) e, ap (λ (f : Fed Seat). f.out) e),
     )

@@ -7,5 +7,5 @@ pub returns-then-intake : goal.returns-then-intake
 returns-then-intake c =
     fed c.if-intake.true refl c.feed_text.ensures
 
-pub returns : goal.returns
-returns c = came c.if-intake.false refl refl c.read_text.ensures
+pub returns-else-intake : goal.returns-else-intake
+returns-else-intake c = came c.if-intake.false refl refl c.read_text.ensures

@@ -4,7 +4,9 @@
 --   decimal_more        any other is the numeral of its tenth, and its last digit
 --   length_single, length_more      so many digits
 --   length_some         there is one at least
+--   under_ten, over_ten      it is under 10 by its length, or not
 --   length_short        a number under 10 ^ k has at most k
+--   length_log          a number from 10 ^ k on and under ten times that has k + 1
 --   decimal_numeral     it is a decimal numeral
 --   value_decimal       it is read as the number
 --   decimal_value       any decimal numeral is that of the number that it is read as: there is no other
@@ -12,6 +14,7 @@
 -- Assumes nothing.
 use Rattle.std.specs.Prelude.{ℕ, zero, suc, ◌+◌, ◌-◌, ◌*◌, ◌/◌, ◌%◌, ◌^◌, ◌≤◌, ◌<◌, ◌≡◌, refl, List, [], ◌∷◌, ◌++◌, length}
 use Rattle.std.proofs.Math.Decide.{dec_lt}
+use Rattle.std.proofs.Math.Nat.{one-le-pow}
 use Rattle.std.proofs.Common.{pow-suc, arith, sym, ap, ap₂, ◌∙◌, append-nil, append_assoc, length-append, lt-ltb, le-ltb}
 use Rattle.lines.specs.Decimal.{digit, numeral, decimal, is_digit, Digits, none, more, value_from, value, Numeral, single, longer}
 
@@ -78,6 +81,21 @@ length_some n = go (dec_lt n 10)
     go (yes l) = omega (arith, length_single n l)
     go (no f) = omega (arith, length_more n (omega arith))
 
+-- by its length
+pub under_ten : (n : ℕ) → length (decimal n) ≤ 1 → n < 10
+under_ten n h = go (dec_lt n 10)
+  where
+    go : Dec (n < 10) → n < 10
+    go (yes l) = l
+    go (no f) = absurd (omega (arith, length_more n (omega arith), length_some (n / 10)))
+
+pub over_ten : (n : ℕ) → 1 < length (decimal n) → 10 ≤ n
+over_ten n h = go (dec_lt n 10)
+  where
+    go : Dec (n < 10) → 10 ≤ n
+    go (yes l) = absurd (omega (arith, length_single n l))
+    go (no f) = omega arith
+
 pub length_short : (k n : ℕ) → n < 10 ^ suc k → length (decimal n) ≤ suc k
 length_short zero n h = omega (arith, length_single n (omega arith))
 length_short (suc k) n h = go (dec_lt n 10) (length_short k (n / 10) (omega (arith, pow-suc 10 (suc k))))
@@ -85,6 +103,17 @@ length_short (suc k) n h = go (dec_lt n 10) (length_short k (n / 10) (omega (ari
     go : Dec (n < 10) → length (decimal (n / 10)) ≤ suc k → length (decimal n) ≤ suc (suc k)
     go (yes l) rest = omega (arith, length_single n l)
     go (no f) rest = omega (arith, length_more n (omega arith))
+
+length_long : (k n : ℕ) → 10 ^ k ≤ n → k < length (decimal n)
+length_long zero n h = length_some n
+length_long (suc k) n h =
+    let tens : 10 ^ suc k ≡ 10 ^ k * 10 = pow-suc 10 k in
+    let some : 1 ≤ 10 ^ k = one-le-pow k 10 (omega arith) in
+    omega (arith, length_more n (omega arith), length_long k (n / 10) (omega arith))
+
+-- by the logarithm
+pub length_log : (k n : ℕ) → 10 ^ k ≤ n → n < 10 * 10 ^ k → length (decimal n) ≡ k + 1
+length_log k n h g = omega (arith, length_long k n h, length_short k n (omega (arith, pow-suc 10 k)))
 
 Digits-append : {cs ds : List ℕ} → Digits cs → Digits ds → Digits (cs ++ ds)
 Digits-append none q = q

@@ -1,14 +1,7 @@
--- `put_end` puts the word and the number's line behind it, and a line is short enough for the text. Assumes nothing.
-use native.Mathlib.Omega.{arith}
-use Rattle.lines.proofs.Text.Laws.{line_short, put_end}
-use Rattle.lines.proofs.Put.Laws.{put_counts}
+-- `put_end` puts the word and the number's line behind it. Assumes nothing.
+use Rattle.lines.specs.Text.{end_line}
 use Rattle.lines.proofs.put_end.Goals as goal
 
-pub put_line-requires : goal.put_line-requires
-put_line-requires c = omega (arith, line_short 19 c.args.n (omega arith))
-
-pub returns : goal.returns
-returns c =
-    let both = put_counts (put_end c.args.n c.put_word-at.ensures c.put_line.ensures)
-    (omega (arith, line_short 19 c.args.n (omega arith))) in
-    record { put = both.0; prefix_len = both.1 }
+pub returns-clause-put : goal.returns-clause-put
+unfolding end_line
+returns-clause-put c = c.put_last.ensures.put

@@ -1,35 +1,32 @@
--- `is_name` looks at the first byte, and at the others one by one. The invariant: the bytes from here on decide.
--- Assumes nothing.
-use native.Mathlib.Omega.{arith}
-use mathlib.Core.Path.{sym, ◌∙◌}
+-- `is_name` looks at the first byte and at the others. Assumes nothing.
+use Rattle.std.proofs.Common.{rules, arith}
+use Rattle.std.proofs.lemmas.Iterator.{YieldsList-from_slice}
+use Rattle.std.proofs.lemmas.Iterator.Search.{all_from_yields_List}
+use Rattle.std.proofs.lemmas.Slice.{between_to_end}
+use mathlib.Core.Path.{sym, ap, ap₂, ◌∙◌}
+use mathlib.Core.Bool.{◌&&◌}
+use lib.ListN.{drop}
+use borrow.Author.Tests.{tests}
+use Rattle.xml.specs.Class.{in_class}
 use Rattle.xml.specs.Chars.{name_char}
-use Rattle.listed.specs.Listed.Laws.{all_goes_on, all_stops, all_done, name_starts, name_wrong, name_empty}
+use Rattle.listed.specs.Listed.{all_in}
+use Rattle.listed.specs.Listed.Laws.{name_begins, name_empty}
 use Rattle.listed.proofs.is_name.Goals as goal
 
-pub returns-then-line-eq0 : goal.returns-then-line-eq0
-returns-then-line-eq0 c = sym (name_empty c.args.line.now c.if-line-eq0.true)
+pub returns-in-empty : goal.returns-in-empty
+returns-in-empty c = name_empty c.args.line.now c.in-empty.len_below
 
-pub returns-then-not-starts : goal.returns-then-not-starts
-returns-then-not-starts c =
+pub returns-then-starts : goal.returns-then-starts
+unfolding all_in
+returns-then-starts c =
     let line = c.args.line.now in
-    sym (name_wrong line (omega arith) (sym c.starts.ensures ∙ c.if-not-starts.true))
+    let rest =
+    all_from_yields_List (in_class name_char) _ _ c.all.result c.all.ensures.ran (YieldsList-from_slice _ c.iter.ensures.rest)
+    (λ x b q k. search (rules, tests)) in
+    sym (name_begins line (omega arith)
+    ∙ ap₂ ◌&&◌ (sym c.starts.ensures ∙ c.if-starts.true) (sym (rest ∙ ap (all_in name_char) (between_to_end line 1 _ (omega arith)))))
 
-pub loop-i-init : goal.loop-i-init
-loop-i-init c =
+pub returns-else-starts : goal.returns-else-starts
+returns-else-starts c =
     let line = c.args.line.now in
-    (omega arith, name_starts line (omega arith) (sym c.starts.ensures ∙ c.if-not-starts.false))
-
-pub returns-then-not-goes_on : goal.returns-then-not-goes_on
-returns-then-not-goes_on c =
-    let line = c.args.line.now in
-    sym (c.loop-i.invariant.1 ∙ all_stops name_char line c.loop-i.i (omega arith) (sym c.goes_on.ensures ∙ c.if-not-goes_on.true))
-
-pub loop-i-preserved : goal.loop-i-preserved
-loop-i-preserved c =
-    let line = c.args.line.now in
-    (omega arith, c.loop-i.invariant.1 ∙ all_goes_on name_char line c.loop-i.i (omega arith) (sym c.goes_on.ensures ∙ c.if-not-goes_on.false))
-
-pub returns : goal.returns
-returns c =
-    let line = c.args.line.now in
-    sym (c.loop-i.invariant.1 ∙ all_done name_char line c.loop-i.i (omega arith))
+    c.if-starts.false ∙ sym (name_begins line (omega arith) ∙ ap (λ x. x && all_in name_char (drop 1 line)) (sym c.starts.ensures ∙ c.if-starts.false))

@@ -18,9 +18,8 @@ use Rattle.std.proofs.lemmas.Bool.{eqb-false}
 use Rattle.choice.specs.When.{when_true, when_false, when_known}
 use Rattle.xml.specs.Bounds.{list_limit}
 use Rattle.xml.specs.Refused.{many_names, long_listed, not_name}
-use Rattle.listed.specs.declared.Listing.{Listing}
 use Rattle.listed.specs.Lines.{lines_of, line_at}
-use Rattle.listed.specs.Listed.{fault_of, fine, refused, answer_from, list_answer}
+use Rattle.listed.specs.Listed.{Listing, fault_of, fine, refused, answer_from, list_answer}
 use Rattle.listed.specs.Words.{Right, Over, NoName, Long, First, Fine}
 use Rattle.listed.specs.Words.Verdict.{Verdict, right, over, no_name, long, judged, is_right, is_over, is_no_name, is_long, one_verdict}
 

@@ -1,5 +1,5 @@
 -- The invariant says how many are certain from here on. Assumes nothing.
-use Prim.Native.Nat.{◌+◌, ◌-◌, ◌≤◌}
+use Prim.Native.Nat.{◌+◌}
 use mathlib.Core.Path.{◌≡◌}
 use lib.ListN.{take, drop}
 use Rattle.engine.specs.Quick.{certain, counted}
@@ -10,8 +10,5 @@ use Rattle.nodes.proofs.front.Given as goal
 
 abbrev pub invariant-loop-i : goal.invariant-loop-i
 invariant-loop-i l =
-    (l.i ≤ l.held) × (l.i + counted (certain (kept_in l.kept) (take l.depth (elements_in l.elements).list)) (drop l.i (take l.held (queue_in l.nodes).list))
-    ≡ counted (certain (kept_in l.kept) (take l.depth (elements_in l.elements).list)) (take l.held (queue_in l.nodes).list))
-
-abbrev pub decreases-loop-i : goal.decreases-loop-i
-decreases-loop-i l = l.held - l.i
+    l.i + counted (certain (kept_in l.kept) (take l.depth (elements_in l.elements).list)) (drop l.i (take l.held (queue_in l.nodes).list))
+    ≡ counted (certain (kept_in l.kept) (take l.depth (elements_in l.elements).list)) (take l.held (queue_in l.nodes).list)

@@ -1,14 +1,10 @@
 -- The invariant says which records stand already. Assumes nothing.
-use Prim.Native.Nat.{◌-◌, ◌≤◌}
 use mathlib.Core.Path.{◌≡◌}
-use lib.ListN.{length, take}
+use lib.ListN.{take}
 use Rattle.records.specs.Write.{buffer}
 use Rattle.node.specs.Node.{queue_in}
 use Rattle.nodes.specs.Nodes.{numbers}
 use Rattle.nodes.proofs.write_front.Given as goal
 
 abbrev pub invariant-loop-i : goal.invariant-loop-i
-invariant-loop-i l = (l.i ≤ l.k) × ((length l.out ≡ length l.initial.out) × (l.out ≡ buffer (numbers (take l.i (queue_in l.nodes).list)) l.initial.out))
-
-abbrev pub decreases-loop-i : goal.decreases-loop-i
-decreases-loop-i l = l.k - l.i
+invariant-loop-i l = l.out ≡ buffer (numbers (take l.i (queue_in l.nodes).list)) l.initial.out

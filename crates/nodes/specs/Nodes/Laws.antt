@@ -1,6 +1,6 @@
 -- One turn of each loop on the waiting nodes, and its end, as equations of its model; and what the calls of a function give together.
 --
---   certain_far, certain_need, certain_none, certain_self      the cases of a node's certainty
+--   certain_far, certain_need, certain_none, certain_self      the cases of a node's certainty;  certain_cases: all four
 --   front_step, front_stop, front_done          the node at i is certain; it is not; none is left
 --   went_yes, went_no                           they are looked for, or not
 --   suffix_step, suffix_stop, suffix_done       the node before waits there; it does not; there is none
@@ -107,6 +107,8 @@ module _ (P : Plan) (bs : List ℕ) (depth level need : ℕ) (fits : depth ≤ d
       ∙ ap (λ l. get_or (0 ∷ map (λ f. f.met) fs) l 0) (sym e))
       (es ∙ sure_used (level - 1) (omega arith) ∙ ap (sure_at P fs) (ap pred (sym e)))
       ∙ ap (λ b. certain_if b P fs level need) (sym (eq-eqb need 0 n))
+
+pub ruleset certain_cases = (certain_far, certain_need, certain_none, certain_self)
 
 -- the records of bytes
 

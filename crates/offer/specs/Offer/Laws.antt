@@ -1,7 +1,6 @@
 -- What an event on room of any length leaves, and that the promise of offer allows one result.
 --
---   offer_lent            refusals 1 and 15, by the lengths of what is lent
---   offer_parts           any other answer, by the parts of the room that were lent on
+--   offer_parts           an answer other than refusals 1 and 15, by the parts of the room that were lent on
 --   offered_long          on longer room: a step, and the bytes past the needed ones as they were
 --   offered_refused       a refused event leaves all as it was but for the stop
 --   offer_one             two results that the promise allows are equal, and so is all that was lent
@@ -9,18 +8,20 @@
 -- What is large is given explicitly. Assumes nothing.
 use Prim.Native.Nat.{ℕ, ◌≤◌}
 use Rattle.std.proofs.Common.{arith, sym, ◌∙◌, take-append-drop, length-append, take_at, drop_at, le-ltb}
-use Rattle.std.specs.Prelude.{◌≡◌, refl, Bool, true, false, length, take, drop}
+use Rattle.std.specs.Prelude.{◌≡◌, refl, false, Result, Ok, Err, length, take, drop}
 use Rattle.std.proofs.Math.Path.{ap, ap₂}
 use mathlib.Core.List.{List, ◌++◌}
-use Rattle.choice.specs.When.{when, when_false, when_no, when_either}
-use Rattle.lent.specs.Lent.{refuse_room, refuse_lent}
+use Rattle.choice.specs.When.{when_false, when_no, when_either}
 use Rattle.meaning.specs.Answer.{too_small}
 use Rattle.meaning.proofs.Answer.Laws.{not_small}
 use Rattle.meaning.specs.Limits.{output_needed, elements_needed, nodes_needed}
 use Rattle.meaning.specs.Refusals.{short_output, short_room, stops}
 use Rattle.plan.specs.Plan.{Plan}
 use Rattle.numbers.specs.Numbers.{Numbers}
-use Rattle.step.specs.declared.Stepped.{Stepped}
+use Rattle.limits.specs.declared.Refusal.{Refusal}
+use Rattle.limits.specs.Number.{fault_in}
+use Rattle.limits.specs.Number.Laws.{some_number, number_one}
+use Rattle.step.specs.Step.{listed_in}
 use Rattle.stop.specs.Stop.{marked_by}
 use Rattle.stop.specs.Stop.Laws.{marked_other}
 use Rattle.feed.specs.Fed.{Came}
@@ -28,32 +29,6 @@ use Rattle.feed.specs.Fed.Across.{across}
 use Rattle.feed.specs.Steps.{Seat, seat, came, stopped_at, step_at}
 use Rattle.feed.specs.Steps.Laws.{refused_at_lem}
 use Rattle.offer.specs.Offer.{needed, longer, beside, offered, OfferGives}
-
--- by the tests of what is lent: 1 and 15 stop nothing
-
-lent_is :
-    (r : ℕ) (s : Seat) (n' : Numbers) (out : List ℕ) (k : ℕ) → stops k ≡ false → r ≡ k → n' ≡ marked_by r s.numbers →
-    came r 0 (seat n' s.elements s.nodes) out ≡ came k 0 s out
-lent_is r s n' out k idle e m =
-    ap₂ (λ (x : ℕ) (y : Numbers). came x 0 (seat y s.elements s.nodes) out) e
-    (m ∙ ap (λ (x : ℕ). marked_by x s.numbers) e ∙ marked_other k s.numbers idle)
-
-lent_cases :
-    (a b : Bool) (r : ℕ) (s : Seat) (n' : Numbers) (out : List ℕ) (c : Came Seat) → r ≡ when a short_output (when b short_room 0) → (r ≡ 0 → ⊥) →
-    n' ≡ marked_by r s.numbers →
-    came r 0 (seat n' s.elements s.nodes) out ≡ when a (came short_output 0 s out) (when b (came short_room 0 s out) c)
-unfolding when
-lent_cases true b r s n' out c e f m = lent_is r s n' out short_output (unfold stops in refl) e m
-lent_cases false true r s n' out c e f m = lent_is r s n' out short_room (unfold stops in refl) e m
-lent_cases false false r s n' out c e f m = absurd (f e)
-
-pub offer_lent :
-    (P : Plan) (s : Seat) (bytes out : List ℕ) (r : Stepped) (k : ℕ) (n' : Numbers) →
-    k ≡ refuse_lent (length out) (length s.elements) (length s.nodes) → (k ≡ 0 → ⊥) → r ≡ record { refusal = k; listed = 0 } →
-    n' ≡ marked_by k s.numbers → OfferGives P s bytes out r (seat n' s.elements s.nodes) out
-unfolding offered refuse_lent refuse_room
-offer_lent P s bytes out r k n' e f given m =
-    ap (λ (x : Stepped). came x.refusal x.listed (seat n' s.elements s.nodes) out) given ∙ lent_cases _ _ k s n' out _ e f m
 
 -- by the parts of the room that were lent on: k and l are how long they are
 pub offer_parts :
@@ -83,6 +58,14 @@ offered_long P s A B bytes out longE longN h =
     ∙ ap₂ (λ (X Y : List ℕ). across (longer X Y) (step_at P s bytes out))
     (drop_at s.elements A elements_needed longE) (drop_at s.nodes B nodes_needed longN)
 
+-- a result by its parts
+
+one_result : (r r' : Result ℕ Refusal) → fault_in r ≡ fault_in r' → listed_in r ≡ listed_in r' → r ≡ r'
+one_result (Ok k) (Ok k') e l = ap Ok l
+one_result (Ok k) (Err x) e l = absurd (omega (arith, some_number x))
+one_result (Err x) (Ok k) e l = absurd (omega (arith, some_number x))
+one_result (Err x) (Err x') e l = ap Err (number_one x x' e)
+
 -- a refused event
 
 module _ (P : Plan) (s : Seat) (bytes out : List ℕ) where
@@ -111,10 +94,10 @@ module _ (P : Plan) (s : Seat) (bytes out : List ℕ) where
       (when_either Kept _ _ _ (kept_lent short_room (unfold stops in refl)) kept_step)
 
   pub offer_one :
-      (r r' : Stepped) (t t' : Seat) (o o' : List ℕ) → OfferGives P s bytes out r t o → OfferGives P s bytes out r' t' o' →
+      (r r' : Result ℕ Refusal) (t t' : Seat) (o o' : List ℕ) → OfferGives P s bytes out r t o → OfferGives P s bytes out r' t' o' →
       (r ≡ r') × ((t ≡ t') × (o ≡ o'))
   offer_one r r' t t' o o' g g' =
-      let e = g ∙ sym g' in
-      let e-refusal = ap (λ (c : Came Seat). c.refusal) e in
-      let e-listed = ap (λ (c : Came Seat). c.listed) e in
-      (λ i. record { refusal = e-refusal i; listed = e-listed i }, (ap (λ (c : Came Seat). c.seat) e, ap (λ (c : Came Seat). c.out) e))
+      let e = g ∙ sym g' in (
+        one_result r r' (ap (λ (c : Came Seat). c.refusal) e) (ap (λ (c : Came Seat). c.listed) e),
+        (ap (λ (c : Came Seat). c.seat) e, ap (λ (c : Came Seat). c.out) e),
+      )

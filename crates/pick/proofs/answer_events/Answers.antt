@@ -1,6 +1,7 @@
 -- `pick::answer_events` meets its contract. Assumes nothing.
 use Rattle.std.proofs.Common.{refl, inl, inr, arith}
 use borrow.Author.Rules.{rules}
+use Rattle.std.proofs.lemmas.Bool.{not-true, not-false}
 use Rattle.meaning.proofs.Limits.Laws.{node_limit_is, output_is}
 use Rattle.session.specs.Event.Laws.{finish_is}
 use Rattle.lines.proofs.Put.Laws.{put_taken}
@@ -18,17 +19,18 @@ work_all-state-requires c =
 pub last_line-requires : goal.last_line-requires
 last_line-requires c = (omega (arith, c.requires.in_bounds.0), omega (arith, c.work_all-state.ensures.few, node_limit_is))
 
-pub returns-then-state : goal.returns-then-state
-returns-then-state c =
+pub returns-then-not-state : goal.returns-then-not-state
+returns-then-not-state c =
+    record { events_answered = inr (c.work_all-state.ensures.failed (not-true _ c.if-not-state.true), refl); prefix_len = (omega arith, refl) }
+
+pub returns : goal.returns
+returns c =
     let work = c.work_all-state.ensures in
     let line = c.last_line.ensures in
     let ended = finish_is _ c.finish-finish.result c.finish-finish.ensures in
-    let written = c.if-state.true in
+    let streamed = work.streamed (not-false _ c.if-not-state.false) in
     record {
       events_answered =
-          inl (λ b o. streamed_lined c.open-file.ensures c.close.ensures (work.streamed written b o) _ ended _ _ (put_taken line.put (search rules)));
+          inl (λ b o. streamed_lined c.open-file.ensures c.close.ensures (streamed b o) _ ended _ _ (put_taken line.put (search rules)));
       prefix_len = line.prefix_len;
     }
-
-pub returns : goal.returns
-returns c = record { events_answered = inr (c.work_all-state.ensures.failed c.if-state.false, refl); prefix_len = (omega arith, refl) }

@@ -4,9 +4,4 @@ use Rattle.pick.specs.Program.Laws.{outcome_written}
 use Rattle.pick.proofs.answer_files.Goals as goal
 
 pub returns : goal.returns
-returns c =
-    let opened = c.open-file.ensures in
-    let read = c.read_full-n.ensures in
-    let closed = c.close.ensures in
-    let answered = c.answer-length.ensures in
-    outcome_written _ _ _ _ _ opened closed read (search rules) _ c.write_text.ensures answered.replied
+returns c = outcome_written _ _ _ _ c.read_file-n.ensures.given (search rules) _ c.write.ensures c.answer-length.ensures.replied

@@ -1,8 +1,6 @@
 -- `hung_of` puts the set of the predicate steps that hang on the step at each place into its slot. The invariant: the slots under `place`
 -- are filled so, the others are 0. Assumes nothing.
-use Prim.Native.Nat.{◌+◌, ◌-◌, ◌≤◌}
-use mathlib.Core.Path.{◌≡◌}
-use lib.ListN.{get_or}
+use Rattle.std.proofs.Common.{◌≡◌, ◌+◌, get_or}
 use Rattle.meaning.specs.Query.{hangs}
 use Rattle.sets.specs.Set.{mask_of}
 use Rattle.plan.specs.Planned.{step_at, padded}
@@ -10,7 +8,4 @@ use Rattle.plan.proofs.hung_of.Given as goal
 
 abbrev pub invariant-loop-place : goal.invariant-loop-place
 invariant-loop-place l =
-    (l.place ≤ l.size) × (l.hung ≡ padded l.place (λ t. mask_of l.size (λ u. hangs (step_at l.query (get_or l.order u 0)) (get_or l.order t 0 + 1))))
-
-abbrev pub decreases-loop-place : goal.decreases-loop-place
-decreases-loop-place l = l.size - l.place
+    l.hung ≡ padded l.place (λ t. mask_of l.size (λ u. hangs (step_at l.query (get_or l.order u 0)) (get_or l.order t 0 + 1)))

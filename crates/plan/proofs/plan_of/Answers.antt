@@ -1,10 +1,15 @@
 -- `plan_of` puts the plan together of its parts: each callee promises one, and Made says that together they are the plan. Assumes nothing.
+use Rattle.std.proofs.Common.{rules}
+use Rattle.sets.proofs.Collect.{mask_of_calls}
 use Rattle.plan.proofs.Made.{made}
 use Rattle.plan.proofs.plan_of.Goals as goal
 
 pub returns : goal.returns
 returns c =
-    made c.args.query.now c.size_of-size.ensures c.order_of-order.ensures
-    c.names_of-names.ensures c.hung_of-hung.ensures c.set_of-deep.ensures
-    c.set_of-main.ensures c.plain_of-plain.ensures c.set_of-first.ensures
-    c.set_of-stars.ensures c.buckets_of-buckets.ensures
+    made c.args.query.now c.size_of-size.ensures c.order_of-order.ensures c.names_of-names.ensures c.hung_of-hung.ensures
+    (mask_of_calls _ c.collected.ensures (λ t b l e. search rules))
+    (mask_of_calls _ c.collected-2.ensures (λ t b l e. search rules))
+    (mask_of_calls _ c.collected-3.ensures (λ t b l e. search rules))
+    (mask_of_calls _ c.collected-4.ensures (λ t b l e. search rules))
+    (mask_of_calls _ c.collected-5.ensures (λ t b l e. search rules))
+    c.buckets_of.ensures

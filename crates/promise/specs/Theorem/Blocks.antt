@@ -21,6 +21,8 @@ use Rattle.meaning.specs.Limits.{output_needed}
 use Rattle.meaning.specs.Refusals.{short_room}
 use Rattle.meaning.specs.Answer as meaning
 use Rattle.meaning.specs.Answer.{Call, Past, too_small, answer, handed_by, handed_out}
+use Rattle.limits.specs.Number.{fault_of}
+use Rattle.limits.specs.Number.Laws.{refusal_at}
 use Rattle.query.specs.Decode.{decode}
 use Rattle.records.specs.Write.{records_of, nodes_in}
 use Rattle.records.proofs.Write.Laws.{length_records, records_append, length_nodes}
@@ -40,6 +42,7 @@ use Rattle.promise.specs.Promise.Event.{event_of_lem, event_answered, event_writ
 use Rattle.promise.specs.Theorem as theorem
 use Rattle.promise.specs.Theorem.{Use, offer, Reply, stepped, Played, unused, by_event, by_finish, Reached, answer_of, records_by, nodes_of}
 use Rattle.promise.specs.Theorem.{Offered, no_more, one_more, Answered, all_taken, then_refused, one_taken}
+use Rattle.promise.specs.Theorem.Short.{event_known}
 use Rattle.promise.specs.Theorem.Replies.{told_records, reached_kept, event_taken, event_long, same}
 
 record Singly (l : Housed) (n : ℕ) (es E N out : List ℕ) (f : Fed Housed) : Type 0 where
@@ -274,11 +277,41 @@ pub first_part :
     (rs₁ : List Reply) × (rs₂ : List Reply) × (k : Housed) × Reached b us rs₁ k × Played k us' rs₂ l × (rs ≡ rs₁ ++ rs₂)
 first_part us us' x = let p = played_split us us' x.played in (p.0, p.1, p.2, reached_by x p.3, p.4, p.5)
 
+-- the refusal with which a block ends is one that the code's enum has
+
+abbrev Ends : Fed Housed → Type 0
+Ends f = fault_of (refusal_at f.refusal) ≡ f.refusal
+
+none_ends : (l : Housed) (out : List ℕ) → Ends (none l out)
+unfolding refusal_at
+none_ends l out = refl
+
+answer_ends : (s : Session) (bytes E N out : List ℕ) (a : Answer) → (event s bytes E N out).answer ≡ a → fault_of (refusal_at (refusal_of a)) ≡ refusal_of a
+unfolding refusal_of refusal_at
+answer_ends s bytes E N out (Refused n) e = event_known s bytes E N out n e
+answer_ends s bytes E N out (Taken k) e = refl
+
+fed_ends : (n : ℕ) (l : Housed) (es out : List ℕ) → Ends (fed event_at n l es out)
+unfolding fed event_at and_then
+fed_ends zero l es out = none_ends l out
+fed_ends (suc n) l es out =
+    let d : Done = event l.session (take 8 es) l.elements l.nodes out in
+    let c : Came Housed = came_as d in
+    when_either Ends (ltb (length out) output_needed) _ _ (none_ends l out)
+    (when_either Ends (eqb c.refusal 0) _ _ (fed_ends n c.seat (drop 8 es) (drop (4 * c.listed) c.out))
+    (answer_ends l.session (take 8 es) l.elements l.nodes out d.answer refl))
+
 pub run_some :
     (s : Session) (es E N out : List ℕ) → (r : Ran) × (A : List ℕ) × (B : List ℕ) × (out' : List ℕ) × RunGives s es E N out r A B out'
 run_some s es E N out =
-    let f = fed event_at (length es / 8) (housed s E N) es out in
-    (record { session = f.seat.session; taken = f.taken; listed = f.listed; refusal = f.refusal }, f.seat.elements, f.seat.nodes, f.out, refl)
+    let f = fed event_at (length es / 8) (housed s E N) es out in (
+      record { session = f.seat.session; taken = f.taken; listed = f.listed; refusal = refusal_at f.refusal },
+      f.seat.elements,
+      f.seat.nodes,
+      f.out,
+      ap (λ (n : ℕ). record { seat = f.seat; taken = f.taken; listed = f.listed; refusal = n; out = f.out })
+          (fed_ends (length es / 8) (housed s E N) es out),
+    )
 
 -- one use more
 pub use_some :
@@ -312,7 +345,7 @@ block {b} {us} {rs} {l} x es E N out used r A B out' g =
       answered = p.answered;
       listed = p.listed;
       written = p.written;
-      ends = λ z. at_end (p.ends z);
+      ends = λ z. at_end (p.ends (ap fault_of z));
     }
   where
     at_end : (r.taken ≡ length es / 8) ⊎ (length out < 4 * r.listed + output_needed) →

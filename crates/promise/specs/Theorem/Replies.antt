@@ -11,7 +11,7 @@
 --   begin_some, event_some, finish_some     every call has a result;  uses_one: every sequence of uses has only one list of replies
 --
 -- Assumes nothing.
-use Rattle.std.specs.Prelude.{ℕ, ◌*◌, ◌≤◌, ◌<◌, ◌↔◌, ◌≡◌, Bool, true, false, T, take, drop}
+use Rattle.std.specs.Prelude.{ℕ, zero, suc, ◌*◌, ◌≤◌, ◌<◌, ◌↔◌, ◌≡◌, Bool, true, false, Result, Ok, Err, T, take, drop}
 use Rattle.std.proofs.Common.{arith, sym, ap₂, ◌∙◌, subst₂, length-append, length-drop, drop_at}
 use Rattle.std.proofs.Math.Path.{refl, ap, subst}
 use mathlib.Core.List.{List, [], ◌∷◌, ◌++◌, map, flat_map, Memᴰ}
@@ -37,6 +37,12 @@ use Rattle.meaning.specs.Answer.{Call, Past, going, too_small, answer, after, an
 use Rattle.meaning.proofs.Answer.Laws.{finish_same, handed_listed}
 use Rattle.meaning.specs.Answer.Stop.{Stopping}
 use Rattle.meaning.proofs.Answer.Stop.{stopped_exactly}
+use Rattle.limits.specs.declared.Refusal.{Refusal}
+use Rattle.limits.specs.declared.Reason.{Reason}
+use Rattle.limits.specs.declared.Reason.TheVariants.{Axis, Role, Hang, Zero}
+use Rattle.limits.specs.Number.{reason_number}
+use Rattle.query.specs.declared.QueryFault.TheVariants.{Length, Step}
+use Rattle.query.proofs.Reasons.Laws.{four_at_most}
 use Rattle.query.specs.Answer as checked
 use Rattle.query.specs.Answer.{Owed}
 use Rattle.query.proofs.Answer.Laws.{owed_given}
@@ -52,11 +58,10 @@ use Rattle.feed.specs.Steps.Laws.{whole_step}
 use Rattle.offer.specs.Offer.{needed}
 use Rattle.session.specs.declared.Session.{Session}
 use Rattle.session.specs.declared.Begun as given
-use Rattle.session.specs.declared.Start as start
-use Rattle.session.specs.declared.Start.TheVariants as started
+use Rattle.session.specs.declared.StartFault.{StartFault}
+use Rattle.session.specs.declared.StartFault.TheVariants as start
 use Rattle.session.specs.declared.Next.{Next}
-use Rattle.session.specs.declared.Finish.{Finish}
-use Rattle.session.specs.declared.Finish.TheVariants as finish-cases
+use Rattle.session.specs.declared.Counts.{Counts}
 use Rattle.session.specs.declared.Answer.{Answer}
 use Rattle.session.specs.declared.Answer.TheVariants.{Refused, Taken}
 use Rattle.session.specs.Begin.{fresh, said, start_answer, session_for, begun, BeginGives}
@@ -93,10 +98,10 @@ told_records (Taken k) m out out' e w =
     ap (take (4 * k)) w
     ∙ (unfold buffer in take_at (records_of (handed_by m)) _ (4 * k) (length_records (handed_by m) ∙ ap (λ (n : ℕ). 4 * n) (taken_many m k out' e)))
 
-finish_none : (f : Finish) (m : meaning.Answer) → ended f ≡ m → handed_by m ≡ []
+finish_none : (f : Result Counts Refusal) (m : meaning.Answer) → ended f ≡ m → handed_by m ≡ []
 unfolding ended handed_by
-finish_none (finish-cases.Refused n) m e = ap handed_by (sym e)
-finish_none (finish-cases.Ended k h) m e = ap handed_by (sym e)
+finish_none (Err r) m e = ap handed_by (sym e)
+finish_none (Ok c) m e = ap handed_by (sym e)
 
 pub record Kept (b : List ℕ) (p : Past) (us : List Use) (rs : List Reply) (l : Housed) : Type 0 where
   pub of : Of b (after_all (decode b) p (map call_of us)) l
@@ -274,15 +279,15 @@ event_long s bytes E N out r E' N' out' g =
 
 -- begin
 
-refused_session : (a : start.Start) (b : List ℕ) → (a ≡ started.Begun → ⊥) → session_for (said a) b ≡ fresh (plan_of [])
-unfolding said session_for
-refused_session started.Begun b f = absurd (f refl)
-refused_session started.ShortRoom b f = refl
-refused_session started.BadLength b f = refl
-refused_session (started.BadStep k r) b f = refl
+refused_session : (a : Result (Unit {0}) StartFault) (b : List ℕ) → (a ≡ Ok tt → ⊥) → session_for (said a) b ≡ fresh (plan_of [])
+unfolding said checked.said session_for
+refused_session (Ok t) b f = absurd (f refl)
+refused_session (Err start.ShortRoom) b f = refl
+refused_session (Err (start.Query Length)) b f = refl
+refused_session (Err (start.Query (Step k r))) b f = refl
 
 blank_session :
-    (b E N : List ℕ) (r : given.Begun) → BeginGives b E N r → (r.answer ≡ started.Begun → ⊥) → r.session ≡ fresh (plan_of [])
+    (b E N : List ℕ) (r : given.Begun) → BeginGives b E N r → (r.answer ≡ Ok tt → ⊥) → r.session ≡ fresh (plan_of [])
 blank_session b E N r g f =
     begin_session b E N r g
     ∙ ap (λ (a : checked.Answer). session_for a b) (sym (begin_answer b E N r g))
@@ -300,18 +305,30 @@ begins b E N r g =
 
 -- every call has a result
 
--- an answer that is owed is one that the code's enum has
-owed_said : (b : List ℕ) (a : checked.Answer) → Owed b a → (x : start.Start) × (said x ≡ a)
-unfolding said
-owed_said b checked.admitted o = (started.Begun, refl)
-owed_said b (checked.refused n) o = (started.BadLength, ap checked.refused (sym o.0))
-owed_said b (checked.refused_at n k r) o = (started.BadStep k r, ap (λ (m : ℕ). checked.refused_at m k r) (sym o.0))
+-- an answer that is owed is one that the code's types have
 
-answer_said : (b E N : List ℕ) → (x : start.Start) × (said x ≡ start_answer b E N)
+reason_said : (r : ℕ) → 1 ≤ r → r ≤ 4 → (t : Reason) × (reason_number t ≡ r)
+reason_said zero h k = absurd (omega arith)
+reason_said (suc zero) h k = (Axis, refl)
+reason_said (suc (suc zero)) h k = (Role, refl)
+reason_said (suc (suc (suc zero))) h k = (Hang, refl)
+reason_said (suc (suc (suc (suc zero)))) h k = (Zero, refl)
+reason_said (suc (suc (suc (suc (suc r))))) h k = absurd (omega arith)
+
+owed_said : (b : List ℕ) (a : checked.Answer) → Owed b a → (x : Result (Unit {0}) StartFault) × (said x ≡ a)
+unfolding said checked.said
+owed_said b checked.admitted o = (Ok tt, refl)
+owed_said b (checked.refused n) o = (Err (start.Query Length), ap checked.refused (sym o.0))
+owed_said b (checked.refused_at n k r) o =
+    let due = four_at_most b o.1.before o.1.due in
+    let t = reason_said r due.0 due.1 in
+    (Err (start.Query (Step k t.0)), ap₂ (λ (m i : ℕ). checked.refused_at m k i) (sym o.0) t.1)
+
+answer_said : (b E N : List ℕ) → (x : Result (Unit {0}) StartFault) × (said x ≡ start_answer b E N)
 unfolding start_answer
 answer_said b E N =
-    when_either (λ (a : checked.Answer). (x : start.Start) × (said x ≡ a)) (too_small (length E) (length N)) _ _ (started.ShortRoom, unfold said in refl)
-    (owed_said b (checked.answer_to b) (owed_given b))
+    when_either (λ (a : checked.Answer). (x : Result (Unit {0}) StartFault) × (said x ≡ a)) (too_small (length E) (length N)) _ _
+    (Err start.ShortRoom, unfold said in refl) (owed_said b (checked.answer_to b) (owed_given b))
 
 pub begin_some : (b E N : List ℕ) → (r : given.Begun) × BeginGives b E N r
 unfolding begun
@@ -326,7 +343,7 @@ pub event_some :
 event_some s bytes E N out =
     let d = event s bytes E N out in (record { answer = d.answer; session = d.session }, d.elements, d.nodes, d.out, refl)
 
-pub finish_some : (s : Session) → (f : Finish) × events.FinishGives s f
+pub finish_some : (s : Session) → (f : Result Counts Refusal) × events.FinishGives s f
 finish_some s = (events.finish s, refl)
 
 -- one list of replies

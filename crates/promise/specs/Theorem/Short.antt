@@ -5,9 +5,11 @@
 --   event_short       1 exactly when the buffer is too short
 --   event_small       15 exactly when a room is too small and 1 does not apply
 --   event_stopped     11 exactly when the session is stopped and neither applies
+--   Known n           n is the number of a refusal of the code's enum, or 0
+--   event_known       so is that of every refusal of an event
 --
 -- Assumes nothing.
-use Rattle.std.specs.Prelude.{ℕ, ◌≤◌, ◌<◌, ◌↔◌, ◌≡◌, refl, Bool, true, false, List, T, eqb, ltb, length}
+use Rattle.std.specs.Prelude.{ℕ, zero, suc, ◌≤◌, ◌<◌, ◌↔◌, ◌≡◌, refl, Bool, true, false, List, Option, Some, None, T, eqb, ltb, length}
 use native.Mathlib.Omega.{arith}
 use Rattle.std.proofs.Common.{sym, ◌∙◌, subst, ne_eqb, lt-ltb, le-ltb, ltb-true, ltb-false}
 use Rattle.std.proofs.Math.Path.{ap}
@@ -18,8 +20,10 @@ use Rattle.meaning.specs.Limits.{output_needed}
 use Rattle.meaning.specs.Refusals.{short_output, short_room, already_stopped, bad_record, wrong_close, too_many_held}
 use Rattle.meaning.specs.Record.{event_of}
 use Rattle.meaning.specs.Answer.{too_small}
+use Rattle.limits.specs.Number.{fault_of}
+use Rattle.limits.specs.Number.Laws.{refusal_at}
 use Rattle.records.specs.declared.Event.{Event}
-use Rattle.records.specs.declared.Event.TheVariants.{Open, Close, Bad}
+use Rattle.records.specs.declared.Event.TheVariants.{Open, Close}
 use Rattle.records.specs.Read.{shown}
 use Rattle.plan.specs.Plan.{Plan}
 use Rattle.plan_bytes.specs.Kept.{kept_in}
@@ -76,17 +80,17 @@ module _ (P : Plan) (n : Numbers) (E : Elements) (N : Queue) (out : List ℕ) wh
   unfolding OwnAfter
   own_refused r h = h
 
-  own_after : (e : Event) → OwnAfter (step P e n E N out)
+  own_after : (e : Option Event) → OwnAfter (step P e n E N out)
   unfolding step on_open on_close
-  own_after (Open x) =
+  own_after (Some (Open x)) =
       when_either OwnAfter (eqb (refuse_open n) 0) _ _
       (when_either OwnAfter (over_in P x n.depth n.held E N) _ _ (own_refused too_many_held (omega arith, λ e. omega arith)) (taken_open x))
       (own_refused (refuse_open n) (own_open n))
-  own_after (Close x) =
+  own_after (Some (Close x)) =
       when_either OwnAfter (eqb (refuse_close n E x) 0) _ _ taken_close (own_refused (refuse_close n E x) (own_close n E x))
-  own_after Bad = own_refused bad_record (omega arith, λ e. omega arith)
+  own_after None = own_refused bad_record (omega arith, λ e. omega arith)
 
-  own_step : (e : Event) → Own (step P e n E N out).refusal
+  own_step : (e : Option Event) → Own (step P e n E N out).refusal
   unfolding OwnAfter
   own_step e = own_after e
 
@@ -114,6 +118,31 @@ when_eleven (one_is e) = absurd (omega arith)
 when_eleven (fifteen_is e) = absurd (omega arith)
 when_eleven (eleven_is e) = (refl, refl, refl)
 when_eleven (own_is h) = absurd (omega (arith, h.0))
+
+-- a number up to 8, 11 or 15 is that of a refusal
+
+abbrev pub Known : ℕ → Type 0
+Known n = fault_of (refusal_at n) ≡ n
+
+low_known : (n : ℕ) → n ≤ 8 → Known n
+unfolding refusal_at
+low_known zero h = refl
+low_known (suc zero) h = refl
+low_known (suc (suc zero)) h = refl
+low_known (suc (suc (suc zero))) h = refl
+low_known (suc (suc (suc (suc zero)))) h = refl
+low_known (suc (suc (suc (suc (suc zero))))) h = refl
+low_known (suc (suc (suc (suc (suc (suc zero)))))) h = refl
+low_known (suc (suc (suc (suc (suc (suc (suc zero))))))) h = refl
+low_known (suc (suc (suc (suc (suc (suc (suc (suc zero)))))))) h = refl
+low_known (suc (suc (suc (suc (suc (suc (suc (suc (suc n))))))))) h = absurd (omega arith)
+
+known_by : {n : ℕ} {x y z : Bool} → Numbered n x y z → Known n
+unfolding refusal_at
+known_by (one_is e) = subst Known e refl
+known_by (fifteen_is e) = subst Known e refl
+known_by (eleven_is e) = subst Known e refl
+known_by {n} (own_is h) = low_known n (omega (arith, h.0))
 
 refused_is : {m n : ℕ} → ◌≡◌ {A = Answer} (Refused m) (Refused n) → m ≡ n
 refused_is e = cc
@@ -182,6 +211,9 @@ module _ (s : Session) (bytes E N out : List ℕ) where
 
   number_of : (n : ℕ) → (event s bytes E N out).answer ≡ Refused n → Lent n
   number_of n e = numbered n _ _ _ refl refl refl e
+
+  pub event_known : (n : ℕ) → (event s bytes E N out).answer ≡ Refused n → Known n
+  event_known n e = known_by (number_of n e)
 
   pub event_short : ((event s bytes E N out).answer ≡ Refused short_output) ↔ (length out < output_needed)
   event_short = (λ e. ltb-true (length out) output_needed (when_one (number_of short_output e)), λ h. answer_short (lt-ltb _ _ h))

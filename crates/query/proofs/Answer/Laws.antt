@@ -5,16 +5,19 @@
 --   answer_exactly     an answer is given exactly if it is owed; nine-, ten-, admitted_exactly: the same of each case
 --   five_never         the reasons given are 1 to 4: 5 is not given yet
 --   step_within        the step with it is one from 1 to 32
---   said_one           two cases of the code's enum that stand for one answer are equal
+--   said_one           two results of the code that stand for one answer are equal
 --   check_one          two results that the check's promise allows are equal
 --
 -- Assumes nothing.
 use Prim.Native.Nat.{ℕ, zero, suc, ◌+◌, ◌≤◌, ◌<◌}
-use Rattle.std.specs.Prelude.{◌≡◌, Bool, true, false, List, ◌↔◌, length}
+use Rattle.std.specs.Prelude.{◌≡◌, Bool, true, false, List, ◌↔◌, length, Result, Ok, Err}
 use Rattle.std.proofs.Math.Path.{refl}
 use Rattle.std.proofs.Common.{sym, ap, ap₂, subst, ◌∙◌, true≢false, not-suc-le-zero, arith}
 use Rattle.std.proofs.Math.Option.{Option}
 use borrow.Author.Count.{below_more}
+use Rattle.limits.specs.Number.{reason_number}
+use Rattle.limits.specs.declared.Reason.{Reason}
+use Rattle.limits.specs.declared.Reason.TheVariants.{Axis, Role, Hang, Zero}
 use Rattle.meaning.specs.Refusals.{bad_length, bad_step}
 use Rattle.meaning.proofs.Table.Laws.{Outcome, first_is, none_is}
 use Rattle.query.specs.Rules.{most_steps, wrong_length, steps, keeps}
@@ -23,8 +26,8 @@ use Rattle.query.specs.Reasons.{Due, reasons}
 use Rattle.query.proofs.Reasons.Laws.{applies_exactly, reason_given, keeps_exactly, four_at_most}
 use Rattle.query.specs.Answer.{Answer, admitted, refused, refused_at, said, FirstBreaking}
 use Rattle.query.specs.Answer.{Kept, Owed, if_none, judged_from, judged, if_wrong, answer_to, CheckGives}
-use Rattle.query.specs.declared.QueryAnswer.{QueryAnswer}
-use Rattle.query.specs.declared.QueryAnswer.TheVariants.{Admitted, BadLength, BadStep}
+use Rattle.query.specs.declared.QueryFault.{QueryFault}
+use Rattle.query.specs.declared.QueryFault.TheVariants.{Length, Step}
 
 -- the answer given is owed
 
@@ -135,19 +138,32 @@ admitted_exactly q = answer_exactly q admitted
 
 -- one possible result
 
-unsaid : Answer → QueryAnswer
-unsaid admitted = Admitted
-unsaid (refused n) = BadLength
-unsaid (refused_at n k r) = BadStep k r
+reason_told : ℕ → Reason
+reason_told (suc zero) = Axis
+reason_told (suc (suc zero)) = Role
+reason_told (suc (suc (suc zero))) = Hang
+reason_told _ = Zero
 
-unsaid_said : (a : QueryAnswer) → unsaid (said a) ≡ a
+told_reason : (r : Reason) → reason_told (reason_number r) ≡ r
+unfolding reason_told
+told_reason Axis = refl
+told_reason Role = refl
+told_reason Hang = refl
+told_reason Zero = refl
+
+unsaid : Answer → Result (Unit {0}) QueryFault
+unsaid admitted = Ok tt
+unsaid (refused n) = Err Length
+unsaid (refused_at n k r) = Err (Step k (reason_told r))
+
+unsaid_said : (a : Result (Unit {0}) QueryFault) → unsaid (said a) ≡ a
 unfolding said unsaid
-unsaid_said Admitted = refl
-unsaid_said BadLength = refl
-unsaid_said (BadStep k r) = refl
+unsaid_said (Ok x) = refl
+unsaid_said (Err Length) = refl
+unsaid_said (Err (Step k r)) = ap (λ x. Err (Step k x)) (told_reason r)
 
-pub said_one : (a b : QueryAnswer) → said a ≡ said b → a ≡ b
+pub said_one : (a b : Result (Unit {0}) QueryFault) → said a ≡ said b → a ≡ b
 said_one a b e = sym (unsaid_said a) ∙ ap unsaid e ∙ unsaid_said b
 
-pub check_one : (q : List ℕ) (a b : QueryAnswer) → CheckGives q a → CheckGives q b → a ≡ b
+pub check_one : (q : List ℕ) (a b : Result (Unit {0}) QueryFault) → CheckGives q a → CheckGives q b → a ≡ b
 check_one q a b p r = said_one a b (p ∙ sym r)

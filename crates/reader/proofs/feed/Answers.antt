@@ -1,35 +1,28 @@
--- Refusals 45 and 46, then the needed part of the room. Assumes nothing.
-use native.Mathlib.Omega.{arith}
-use mathlib.Core.Path.{sym, ◌∙◌}
-use lib.Seq.{length-take-le}
+-- The needed part of the room. Assumes nothing.
+use Rattle.std.proofs.Common.{arith, ◌++◌, drop, sym, ap, ap₂, ◌∙◌, ℕ, List}
+use Rattle.std.proofs.lemmas.List.{take-append-drop}
 use Rattle.slots.specs.Slots.Laws.{room_is}
-use Rattle.reader.specs.Feed.{feed_scant, feed_stopped, feed_came, enough}
+use Rattle.reader.specs.declared.Fed.{Fed}
+use Rattle.reader.specs.Fed.{read_on}
+use Rattle.reader.specs.Feed.{Came, is_stopped, is_not_stopped, all_lent, feed_stopped, feed_came}
 use Rattle.reader.proofs.feed.Goals as goal
 
-pub returns-then-scant : goal.returns-then-scant
-returns-then-scant c = feed_scant _ _ _ _ _ _ (sym c.scant.ensures ∙ c.if-scant.true)
-
-pub returns-then-reader-ne0 : goal.returns-then-reader-ne0
-returns-then-reader-ne0 c =
-    feed_stopped _ _ _ _ _ _ (sym c.scant.ensures ∙ c.if-scant.false) c.if-reader-ne0.true
-
-pub slice_bounds-read_on-end : goal.slice_bounds-read_on-end
-slice_bounds-read_on-end c =
-    omega (arith, room_is, (enough _ _ _ (sym c.scant.ensures ∙ c.if-scant.false)).room')
-
-pub slice_bounds-read_on-end-2 : goal.slice_bounds-read_on-end-2
-slice_bounds-read_on-end-2 c =
-    let R = c.args.room.now in
-    sym (length-take-le _ R (omega (arith, room_is, (enough _ _ _ (sym c.scant.ensures ∙ c.if-scant.false)).room')))
-
-pub read_on-requires : goal.read_on-requires
-read_on-requires c =
-    let R = c.args.room.now in
-    let fits = enough _ _ _ (sym c.scant.ensures ∙ c.if-scant.false) in
-    (length-take-le _ R (omega (arith, room_is, fits.room')) ∙ sym room_is, fits.index')
+pub returns-then-is_some : goal.returns-then-is_some
+returns-then-is_some c =
+    let a = c.args in
+    let R = a.room.now in
+    let came : Fed → List ℕ → Came =
+    λ f z. record { reader = f.reader; taken = f.taken; room = z; out = a.out.now; written = f.written; refusal = f.refusal }
+    in
+    ap₂ came c.untouched-then-is_some.ensures (ap (λ z. z ++ drop 18_496 R) c.in-Some.ensures.cases.same ∙ take-append-drop 18_496 R)
+    ∙ feed_stopped _ _ _ _ _ _ (all_lent _ _ _ c.in-Some.ensures.cases.enough (omega arith) (omega arith))
+    (is_stopped _ (sym c.is_some.ensures ∙ c.if-is_some.true))
 
 pub returns : goal.returns
 returns c =
     let a = c.args in
-    feed_came a.names.now a.index.now a.text.now a.reader a.room.now a.out.now (sym c.scant.ensures ∙ c.if-scant.false)
-    c.if-reader-ne0.false room_is c.read_on.ensures.0 c.read_on.ensures.1
+    feed_came a.names.now a.index.now a.text.now a.reader a.room.now a.out.now
+    (all_lent _ _ _ c.in-Some.ensures.cases.enough (omega arith) (omega arith))
+    (is_not_stopped _ (sym c.is_some.ensures ∙ c.if-is_some.false)) room_is
+    (c.read_on.ensures.0 ∙ ap (λ z. read_on a.names.now a.index.now a.text.now a.reader z a.out.now) c.in-Some.ensures.cases.same)
+    c.read_on.ensures.1

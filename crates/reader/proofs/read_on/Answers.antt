@@ -13,7 +13,7 @@ loop-marks-init c = (omega arith, omega arith, refl, refl, left_begin _ _ _ _ _ 
 pub emit-written-requires : goal.emit-written-requires
 emit-written-requires c =
     let more = more_is _ _ _ _ _ (sym c.more.ensures ∙ c.loop-marks-test.true) in
-    (search rules, search rules, omega (arith, more.room))
+    (search rules, omega (arith, more.room))
 
 pub loop-marks-smaller : goal.loop-marks-smaller
 loop-marks-smaller c =

@@ -31,6 +31,7 @@ use Rattle.names.proofs.Built.{build_finds}
 use Rattle.names.specs.First.{first_place}
 use Rattle.names.specs.Number.{number_of}
 use Rattle.names.specs.Number.Laws.{number_within}
+use Rattle.limits.specs.Number.{text_of}
 use Rattle.modes.specs.declared.Reader.{Reader}
 use Rattle.modes.specs.Moves.{open_at}
 use Rattle.slots.specs.Slots.{room_needed}
@@ -86,13 +87,13 @@ module _ (N X : List ℕ) where
       more_written : (fs : List Ev) → take c.written out' ≡ records_in f fs → bs ++ take c.written out' ≡ records_in f (h.es ++ fs)
       more_written fs e = ap₂ ◌++◌ h.written e ∙ sym (records_more f h.es fs)
 
-      fed_on : c.refusal ≡ 0 → Read (t ++ take c.taken u) c.reader S' (bs ++ take c.written out')
+      fed_on : text_of c.refusal ≡ 0 → Read (t ++ take c.taken u) c.reader S' (bs ++ take c.written out')
       unfolding as_came
       fed_on z = go answer_came
         where
           go : FeedCame N X t r S h.es u out (as_came c S' out') → Read (t ++ take c.taken u) c.reader S' (bs ++ take c.written out')
           go (FeedCame.lent_scant e g) =
-              let x : c.refusal ≡ scant = ap (λ (y : Came). y.refusal) g in
+              let x : text_of c.refusal ≡ scant = ap (λ (y : Came). text_of y.refusal) g in
               absurd (omega (arith, x, z))
           go (FeedCame.went fs e x y k) = record { es = h.es ++ fs; read = x; written = more_written fs (wrote_first k.wrote) }
           go (FeedCame.refused fs b w l q j e k) = absurd (omega (arith, l, z))
@@ -131,10 +132,10 @@ module _ (N X : List ℕ) where
 
   -- the end of the text
   module _ {t R bs : List ℕ} {r : Reader} {a : Finished} (h : Read t r R bs) (gives : FinishGives r a) where
-    same_refusal : a.refusal ≡ (finish_answer r).refusal
-    same_refusal = ap (λ (z : Finished). z.refusal) gives
+    same_refusal : text_of a.refusal ≡ text_of (finish_answer r).refusal
+    same_refusal = ap (λ (z : Finished). text_of z.refusal) gives
 
-    accepts_so : (a.refusal ≡ 0) ↔ ((es : List Ev) × Document bounds t es)
+    accepts_so : (text_of a.refusal ≡ 0) ↔ ((es : List Ev) × Document bounds t es)
     accepts_so = (
       λ e. (h.es, (finish_exactly N X t r R h.es h.read).0 (sym same_refusal ∙ e)),
       λ d.
@@ -144,10 +145,10 @@ module _ (N X : List ℕ) where
           d.1),
     )
 
-    unended_so : (a.refusal ≡ 0 → ⊥) → (a.refusal ≡ 44) × (a.reader.refusal ≡ 44)
+    unended_so : (text_of a.refusal ≡ 0 → ⊥) → (text_of a.refusal ≡ 44) × (text_of a.reader.refusal ≡ 44)
     unended_so wrong =
         let k = finish_stops N X t r R h.es h.read (λ e. wrong (same_refusal ∙ e)) in
-        (same_refusal ∙ k.0, ap (λ (z : Finished). z.reader.refusal) gives ∙ k.1)
+        (same_refusal ∙ k.0, ap (λ (z : Finished). text_of z.reader.refusal) gives ∙ k.1)
 
   -- a feed
   module _ {t u R bs out out' : List ℕ} {r : Reader} {c : answered.Fed} (x : Feeds N X t u r R bs out c out') where
@@ -157,7 +158,7 @@ module _ (N X : List ℕ) where
     feeds_came : FeedCame N X t r x.S before.es u out (as_came c x.S' out')
     feeds_came = answer_came u x.S out before x.bytes x.same x.gives
 
-    taken_so : c.refusal ≡ 0 → (c.taken ≡ length u) ⊎ (length out < c.written + 16)
+    taken_so : text_of c.refusal ≡ 0 → (c.taken ≡ length u) ⊎ (length out < c.written + 16)
     unfolding as_came
     taken_so z = go feeds_came
       where
@@ -166,34 +167,34 @@ module _ (N X : List ℕ) where
         go (FeedCame.went fs e y k w) = k
         go (FeedCame.refused fs b w l q j e k) = absurd (omega (arith, l, z))
 
-    goes_on_so : 0 < length u → (0 < c.taken) ⊎ (0 < c.refusal)
+    goes_on_so : 0 < length u → (0 < c.taken) ⊎ (0 < text_of c.refusal)
     goes_on_so l =
-        subst (λ (y : Came). (0 < y.taken) ⊎ (0 < y.refusal)) (sym x.gives)
+        subst (λ (y : Came). (0 < y.taken) ⊎ (0 < text_of y.refusal)) (sym x.gives)
         (feed_on N X t r x.S before.es u out (relent x.S x.same before.read) x.bytes x.enough l)
 
-    refuses_so : (c.refusal ≡ 0 → ⊥) → Refuses N X t u bs c out'
+    refuses_so : (text_of c.refusal ≡ 0 → ⊥) → Refuses N X t u bs c out'
     unfolding as_came
     refuses_so wrong = go feeds_came
       where
         sentence_so :
-            (b : ℕ) → RefusedAt bounds c.refusal (stopped_at t u c) b → Dec (c.refusal ≡ 30)
-            → ((c.refusal ≡ 30) × ((q : ℕ) → Refusal bounds q (stopped_at t u c) b → ⊥)) ⊎ Refusal bounds c.refusal (stopped_at t u c) b
+            (b : ℕ) → RefusedAt bounds (text_of c.refusal) (stopped_at t u c) b → Dec (text_of c.refusal ≡ 30)
+            → ((text_of c.refusal ≡ 30) × ((q : ℕ) → Refusal bounds q (stopped_at t u c) b → ⊥)) ⊎ Refusal bounds (text_of c.refusal) (stopped_at t u c) b
         sentence_so b at (yes e) = inl (e, ((misplaced_is (stopped_at t u c) b).0 (subst (λ n. RefusedAt bounds n (stopped_at t u c) b) e at)).1)
-        sentence_so b at (no d) = inr ((table c.refusal (stopped_at t u c) b d).0 at)
+        sentence_so b at (no d) = inr ((table (text_of c.refusal) (stopped_at t u c) b d).0 at)
 
         go : FeedCame N X t r x.S before.es u out (as_came c x.S' out') → Refuses N X t u bs c out'
         go (FeedCame.lent_scant e g) = never (sym x.enough ∙ e)
         go (FeedCame.went fs e y k w) = absurd (wrong e)
         go (FeedCame.refused fs b w l q j e k) =
-            let at : RefusedAt bounds c.refusal (stopped_at t u c) b = record { evs = before.es ++ fs; refuses = e } in
-            let reads = refused_reads bounds c.refusal (stopped_at t u c) b (before.es ++ fs) e in
+            let at : RefusedAt bounds (text_of c.refusal) (stopped_at t u c) b = record { evs = before.es ++ fs; refuses = e } in
+            let reads = refused_reads bounds (text_of c.refusal) (stopped_at t u c) b (before.es ++ fs) e in
             record {
               b = b;
               rest = w;
               byte = j;
               refused_at_lem = at;
-              earliest = (earliest (stopped_at t u c) b).0 (c.refusal, at);
-              sentence = sentence_so b at (ℕ_discrete c.refusal 30);
+              earliest = (earliest (stopped_at t u c) b).0 (text_of c.refusal, at);
+              sentence = sentence_so b at (ℕ_discrete (text_of c.refusal) 30);
               events =
                   events_of_lem (stopped_at t u c) (bs ++ take c.written out') (before.es ++ fs) reads.0 reads.1
                   (more_written u x.S out before x.bytes x.same x.gives fs (wrote_first k.wrote));
@@ -219,7 +220,7 @@ module _ (N X : List ℕ) where
         go : FeedCame N X t r x.S before.es u out (as_came c x.S' out') → Stands bounds (stopped_at t u c)
         go (FeedCame.lent_scant e g) = never (sym x.enough ∙ e)
         go (FeedCame.went fs e y k w) = record { evs = before.es ++ fs; state = state_of c.reader (used x.S'); reads = y.reads }
-        go (FeedCame.refused fs b w l q j e k) = refused_stands bounds c.refusal (stopped_at t u c) b (record { evs = before.es ++ fs; refuses = e })
+        go (FeedCame.refused fs b w l q j e k) = refused_stands bounds (text_of c.refusal) (stopped_at t u c) b (record { evs = before.es ++ fs; refuses = e })
 
   -- no text is read that goes on behind a refused byte
   no_longer : (q b : ℕ) (v w : List ℕ) → RefusedAt bounds q v b → Stands bounds (v ++ (b ∷ w)) → ⊥
@@ -239,7 +240,7 @@ module _ (N X : List ℕ) where
         (subst (Stands bounds) (ap (λ z. t ++ z) (past u v w b c.taken e l) ∙ sym (append_assoc t v _)) (taken_stands x))
 
     -- nor does it stop before
-    not_before : (c.refusal ≡ 0 → ⊥) → c.taken < length v → ⊥
+    not_before : (text_of c.refusal ≡ 0 → ⊥) → c.taken < length v → ⊥
     not_before wrong l =
         let y = refuses_so x wrong in
         let p = take c.taken u in
@@ -247,10 +248,10 @@ module _ (N X : List ℕ) where
         let n = length-take-le c.taken u (omega arith) in
         let split : u ≡ take c.taken u ++ (y.b ∷ y.rest) = sym (take-append-drop c.taken u) ∙ ap (λ z. p ++ z) y.byte in
         let here = sym (ap (take (length v)) e ∙ take-append_seam v (b ∷ w)) ∙ past u p y.rest y.b (length v) split (omega arith) in
-        no_longer c.refusal y.b (stopped_at t u c) (take (length v - suc (length p)) y.rest) y.refused_at_lem
+        no_longer (text_of c.refusal) y.b (stopped_at t u c) (take (length v - suc (length p)) y.rest) y.refused_at_lem
         (subst (Stands bounds) (ap (λ z. t ++ z) here ∙ sym (append_assoc t p _)) (refused_stands bounds q (t ++ v) b at))
 
-    no_further_so : (c.taken ≤ length v) × ((c.refusal ≡ 0 → ⊥) → (c.taken ≡ length v) × (c.refusal ≡ q))
+    no_further_so : (c.taken ≤ length v) × ((text_of c.refusal ≡ 0 → ⊥) → (c.taken ≡ length v) × (text_of c.refusal ≡ q))
     no_further_so = (most, λ wrong. (exactly wrong, number wrong))
       where
         most : c.taken ≤ length v
@@ -260,29 +261,30 @@ module _ (N X : List ℕ) where
             go true l = absurd (not_past (ltb-true _ _ l))
             go false l = ltb-false _ _ l
 
-        exactly : (c.refusal ≡ 0 → ⊥) → c.taken ≡ length v
+        exactly : (text_of c.refusal ≡ 0 → ⊥) → c.taken ≡ length v
         exactly wrong = go (ltb c.taken (length v)) refl
           where
             go : (z : Bool) → ltb c.taken (length v) ≡ z → c.taken ≡ length v
             go true l = absurd (not_before wrong (ltb-true _ _ l))
             go false l = let k : length v ≤ c.taken = ltb-false _ _ l in omega (arith, most, k)
 
-        number : (c.refusal ≡ 0 → ⊥) → c.refusal ≡ q
+        number : (text_of c.refusal ≡ 0 → ⊥) → text_of c.refusal ≡ q
         number wrong =
             let y = refuses_so x wrong in
             let n = exactly wrong in
             let first : take c.taken u ≡ v = ap (λ k. take k u) n ∙ ap (take (length v)) e ∙ take-append_seam v (b ∷ w) in
             let later : y.b ∷ y.rest ≡ b ∷ w = sym y.byte ∙ ap (λ k. drop k u) n ∙ ap (drop (length v)) e ∙ drop-append_seam v (b ∷ w) in
             let same : y.b ≡ b = cc in
-            one_number bounds c.refusal q (t ++ v) b
-            (subst (λ z. RefusedAt bounds c.refusal (t ++ v) z) same (subst (λ z. RefusedAt bounds c.refusal (t ++ z) y.b) first y.refused_at_lem)) at
+            one_number bounds (text_of c.refusal) q (t ++ v) b
+            (subst (λ z. RefusedAt bounds (text_of c.refusal) (t ++ v) z) same
+            (subst (λ z. RefusedAt bounds (text_of c.refusal) (t ++ z) y.b) first y.refused_at_lem)) at
 
   document_so :
       {t u R bs out out' : List ℕ} {r : Reader} {c : answered.Fed} {es : List Ev} (v : List ℕ)
       → Feeds N X t u r R bs out c out'
       → Document bounds (t ++ (u ++ v)) es
-      → c.refusal ≡ 0
-  document_so {t} {u} {bs = bs} {out' = out'} {c = c} {es = es} v x d = by_test (ℕ_discrete c.refusal 0)
+      → text_of c.refusal ≡ 0
+  document_so {t} {u} {bs = bs} {out' = out'} {c = c} {es = es} v x d = by_test (ℕ_discrete (text_of c.refusal) 0)
     where
       -- a document that goes on behind a refused byte
       refused_document : Refuses N X t u bs c out' → ⊥
@@ -296,7 +298,7 @@ module _ (N X : List ℕ) where
           ∙ sym (append_assoc (t ++ p) (y.b ∷ []) (y.rest ++ v)) in
           y.earliest.1 (record { rest = y.rest ++ v; evs = es; whole = subst (λ z. Document bounds z es) whole d })
 
-      by_test : Dec (c.refusal ≡ 0) → c.refusal ≡ 0
+      by_test : Dec (text_of c.refusal ≡ 0) → text_of c.refusal ≡ 0
       by_test (yes e) = e
       by_test (no wrong) = absurd (refused_document (refuses_so x wrong))
 
@@ -305,11 +307,11 @@ module _ (N X : List ℕ) where
       {S' out' : List ℕ} {r : Reader} {c : answered.Fed} (u S out : List ℕ)
       → FeedGives N X u r S out c S' out'
       → too_scant (length S) (length X) (length out) ≡ false
-      → (r.refusal ≡ 0 → ⊥)
-      → (c.refusal ≡ 46) × (c.reader ≡ r) × (c.taken ≡ 0) × (c.written ≡ 0) × (S' ≡ S) × (out' ≡ out)
+      → (text_of r.refusal ≡ 0 → ⊥)
+      → (text_of c.refusal ≡ 46) × (c.reader ≡ r) × (c.taken ≡ 0) × (c.written ≡ 0) × (S' ≡ S) × (out' ≡ out)
   stopped_so {r = r} u S out gives lent wrong =
       let e = gives ∙ sym (feed_stopped N X u r S out lent wrong) in (
-        ap (λ (y : Came). y.refusal) e,
+        ap (λ (y : Came). text_of y.refusal) e,
         ap (λ (y : Came). y.reader) e,
         ap (λ (y : Came). y.taken) e,
         ap (λ (y : Came). y.written) e,

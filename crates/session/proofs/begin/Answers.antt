@@ -1,24 +1,20 @@
--- Case by case (Begin.Laws). Assumes nothing.
-use mathlib.Core.Path.{refl}
-use Rattle.lent.specs.Lent.Laws.{room_fits, room_short}
-use Rattle.session.specs.Begin.Laws.{begin_short, begin_admitted, begin_long, begin_broken}
+-- The answer, and the session beside it (Begin.Laws). Assumes nothing.
+use mathlib.Core.Path.{sym, ap, ◌∙◌}
+use mathlib.Core.Bool.{true, false}
+use mathlib.Core.List.{List}
+use Prim.Native.Nat.{ℕ}
+use denote.Bor.{Bor}
+use Rattle.choice.specs.When.{when}
+use Rattle.session.specs.Begin.{fresh}
+use Rattle.session.specs.Begin.Laws.{session_beside, begin_parts}
 use Rattle.session.proofs.begin.Goals as goal
+use Rattle.session.proofs.begin.Goals.{then-is_ok, else-is_ok}
 
-pub returns-then-short-ne0 : goal.returns-then-short-ne0
-returns-then-short-ne0 c = begin_short _ _ _ _ _ _ refl (room_short _ _ _ c.refuse_room-short.ensures.0 c.if-short-ne0.true).1
-    c.plan_of.ensures c.fresh-blank.ensures
-
-pub returns-in-Admitted : goal.returns-in-Admitted
-returns-in-Admitted c = let enough = room_fits _ _ (c.refuse_room-short.ensures.1 c.if-short-ne0.false) in
-    begin_admitted _ _ _ _ _ enough _ c.fresh-session.ensures _ c.check-answer.ensures c.in-Admitted.is refl
-    c.plan_of-in-Admitted.ensures
-
-pub returns-in-BadLength : goal.returns-in-BadLength
-returns-in-BadLength c = let enough = room_fits _ _ (c.refuse_room-short.ensures.1 c.if-short-ne0.false) in
-    begin_long _ _ _ _ _ enough _ c.fresh-blank.ensures _ c.check-answer.ensures c.in-BadLength.is refl
-    c.plan_of.ensures
-
-pub returns-in-BadStep : goal.returns-in-BadStep
-returns-in-BadStep c = let enough = room_fits _ _ (c.refuse_room-short.ensures.1 c.if-short-ne0.false) in
-    begin_broken _ _ _ _ _ enough _ c.fresh-blank.ensures _ c.check-answer.ensures _ _ c.in-BadStep.is refl
-    c.plan_of.ensures
+pub returns : goal.returns
+unfolding when
+returns c = begin_parts c.args.query.now c.args.elements.now c.args.nodes.now _ _ c.check-answer.ensures
+    (c.fresh-session.ensures ∙ ap fresh c.plan_of.ensures
+    ∙ (elim c.if-is_ok.branch [
+      | then-is_ok w ↦ session_beside _ _ _ true (sym w.if-is_ok.ensures.value) (ap (λ (b : Bor (List ℕ)). b.now) w.steps-is)
+      | else-is_ok w ↦ session_beside _ _ _ false (sym w.if-is_ok.ensures.value) (ap (λ (b : Bor (List ℕ)). b.now) w.steps-is)
+    ]))

@@ -1,6 +1,6 @@
 -- What the calls of an event give together, and that the promises of event and finish allow one result.
 --
---   with_parts                         the numbers one by one
+--   of_parts                           a session by what it keeps of its query and its numbers one by one
 --   there, again                       a session with other numbers has these, if what they say by 0 or not 0 is said by 0 or 1; its own leave it as it is
 --   stopped_numbers                    a session with its own numbers after a refusal is the session after it
 --   stopped_other                      a refusal that does not stop leaves the session as it was
@@ -11,7 +11,7 @@
 --   event_one, finish_one              two results that the promise allows are equal, and so is all that was lent
 --
 -- The session and what an event came to are given explicitly: they are too large to be found. Assumes nothing.
-use Rattle.std.specs.Prelude.{ℕ, zero, suc, ◌≤◌, ◌≡◌, refl, Bool, true, false, not, ◌||◌, List, eqb, ltb, length}
+use Rattle.std.specs.Prelude.{ℕ, zero, suc, ◌≤◌, ◌≡◌, refl, Bool, true, false, not, ◌||◌, List, Result, eqb, ltb, length}
 use Rattle.std.proofs.Common.{arith, sym, ◌∙◌, ne_eqb}
 use Rattle.std.proofs.Math.Path.{ap, ap₂}
 use Rattle.std.proofs.Math.Bool.{or-true, or-false}
@@ -33,17 +33,18 @@ use Rattle.session.specs.declared.Session.{Session}
 use Rattle.session.specs.declared.Answer.{Answer}
 use Rattle.session.specs.declared.Answer.TheVariants.{Refused}
 use Rattle.session.specs.declared.Next.{Next}
-use Rattle.session.specs.declared.Finish as finished
-use Rattle.session.specs.Event.{Done, refused, session_numbers, with_numbers, stopped_by, answer_by, settled, event}
+use Rattle.session.specs.declared.Counts.{Counts}
+use Rattle.limits.specs.declared.Refusal.{Refusal}
+use Rattle.session.specs.Event.{Done, refused, session_of, session_numbers, with_numbers, stopped_by, answer_by, settled, event}
 use Rattle.session.specs.Event.{ToldDone, told_as, told_of, EventGives, finish, FinishGives}
 use Rattle.session.specs.Told.{told, told_one, ended_one}
 
-pub with_parts :
-    (s : Session) (n : Numbers) (depth held opened handed ended stopped : ℕ) → depth ≡ n.depth → held ≡ n.held → opened ≡ n.opened →
+pub of_parts :
+    (kept : List ℕ) (n : Numbers) (depth held opened handed ended stopped : ℕ) → depth ≡ n.depth → held ≡ n.held → opened ≡ n.opened →
     handed ≡ n.handed → ended ≡ n.ended → stopped ≡ n.stopped →
-    with_numbers s (numbers_of depth held opened handed ended stopped) ≡ with_numbers s n
-with_parts s n depth held opened handed ended stopped e₁ e₂ e₃ e₄ e₅ e₆ =
-    λ i. with_numbers s (numbers_of (e₁ i) (e₂ i) (e₃ i) (e₄ i) (e₅ i) (e₆ i))
+    session_of kept (numbers_of depth held opened handed ended stopped) ≡ session_of kept n
+of_parts kept n depth held opened handed ended stopped e₁ e₂ e₃ e₄ e₅ e₆ =
+    λ i. session_of kept (numbers_of (e₁ i) (e₂ i) (e₃ i) (e₄ i) (e₅ i) (e₆ i))
 
 -- the numbers back
 
@@ -160,8 +161,8 @@ event_one s bytes E N out r r' A A' B B' o o' g g' =
     let e = told_same r.answer r'.answer r.session r'.session A A' B B' o o' (g ∙ sym g') in
     (ap₂ (λ (a : Answer) (t : Session). record { answer = a; session = t }) e.0 e.1.0, e.1.1)
 
-pub finish_is : (s : Session) (r : finished.Finish) → FinishGives s r → r ≡ finish s
+pub finish_is : (s : Session) (r : Result Counts Refusal) → FinishGives s r → r ≡ finish s
 finish_is s r g = ended_one r (finish s) g
 
-pub finish_one : (s : Session) (r r' : finished.Finish) → FinishGives s r → FinishGives s r' → r ≡ r'
+pub finish_one : (s : Session) (r r' : Result Counts Refusal) → FinishGives s r → FinishGives s r' → r ≡ r'
 finish_one s r r' g g' = ended_one r r' (g ∙ sym g')

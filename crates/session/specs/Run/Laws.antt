@@ -10,7 +10,7 @@
 -- What is large is given explicitly. Assumes nothing.
 use Prim.Native.Nat.{ℕ, zero, suc, ◌*◌, ◌/◌, ◌≤◌, ◌<◌}
 use native.Mathlib.Omega.{arith}
-use Rattle.std.specs.Prelude.{◌≡◌, Bool, true, false, List, ◌++◌, eqb, take}
+use Rattle.std.specs.Prelude.{◌≡◌, Bool, true, false, List, ◌++◌, Option, Some, None, eqb, take}
 use Rattle.std.proofs.Math.Path.{refl, sym, ap, ap₂}
 use Rattle.std.proofs.Common.{◌∙◌, take-append-drop, length-take-le, eqb-true, ne_eqb, lt-ltb, le-ltb}
 use Rattle.std.proofs.Math.ListN.{length, drop}
@@ -20,6 +20,10 @@ use Rattle.choice.specs.Count.{bool_byte_le}
 use Rattle.meaning.specs.Refusals.{short_room}
 use Rattle.meaning.specs.Answer.{too_small}
 use Rattle.meaning.specs.Limits.{output_needed, elements_needed, nodes_needed}
+use Rattle.limits.specs.declared.Refusal.{Refusal}
+use Rattle.limits.specs.declared.Refusal.TheVariants.{ShortRoom}
+use Rattle.limits.specs.Number.{number, fault_of}
+use Rattle.limits.specs.Number.Laws.{some_number, number_one, fault_one}
 use Rattle.numbers.specs.Numbers.{Numbers}
 use Rattle.plan.specs.Plan.{Plan}
 use Rattle.plan_bytes.specs.Kept.{kept_in}
@@ -93,33 +97,33 @@ module _ (s : Session) (A B : List ℕ) where
 
 -- no event is looked at, or the first is refused for want of room
 
-abbrev stayed : Session → ℕ → Ran
+abbrev stayed : Session → Option Refusal → Ran
 stayed s refusal = record { session = s; taken = 0; listed = 0; refusal = refusal }
 
 module _ (s : Session) (es E N out : List ℕ) where
   abbrev Gives : Ran → Type 0
   Gives r = RunGives s es E N out r E N out × ((8 * r.taken ≤ length es) × (4 * r.listed ≤ length out))
 
-  still : (refusal : ℕ) (r : Ran) → r ≡ stayed s refusal → RunGives s es E N out (stayed s refusal) E N out → Gives r
+  still : (refusal : Option Refusal) (r : Ran) → r ≡ stayed s refusal → RunGives s es E N out (stayed s refusal) E N out → Gives r
   still refusal r e h = (
     ap (λ (x : Ran). ran x E N out) e ∙ h,
     (omega (arith, ap (λ (x : Ran). x.taken) e), omega (arith, ap (λ (x : Ran). x.listed) e)),
   )
 
-  pub run_few : (r : Ran) → r ≡ stayed s 0 → length es < 8 → Gives r
+  pub run_few : (r : Ran) → r ≡ stayed s None → length es < 8 → Gives r
   unfolding fed
-  run_few r e h = still 0 r e (ap (λ (n : ℕ). fed event_at n (housed s E N) es out) (sym few))
+  run_few r e h = still None r e (ap (λ (n : ℕ). fed event_at n (housed s E N) es out) (sym few))
     where
       few : length es / 8 ≡ 0
       few = omega arith
 
-  short : (n : ℕ) → length out < output_needed → ran (stayed s 0) E N out ≡ fed event_at n (housed s E N) es out
+  short : (n : ℕ) → length out < output_needed → ran (stayed s None) E N out ≡ fed event_at n (housed s E N) es out
   unfolding fed
   short zero h = refl
   short (suc n) h = when_yes _ _ _ _ (lt-ltb _ _ h) refl
 
-  pub run_short : (r : Ran) → r ≡ stayed s 0 → length out < output_needed → Gives r
-  run_short r e h = still 0 r e (short (length es / 8) h)
+  pub run_short : (r : Ran) → r ≡ stayed s None → length out < output_needed → Gives r
+  run_short r e h = still None r e (short (length es / 8) h)
 
   -- "15 comes directly after 1 and before all others"
   small_event :
@@ -130,7 +134,7 @@ module _ (s : Session) (es E N out : List ℕ) where
 
   small :
       (n : ℕ) → 0 < n → output_needed ≤ length out → too_small (length E) (length N) ≡ true →
-      ran (stayed s short_room) E N out ≡ fed event_at n (housed s E N) es out
+      ran (stayed s (Some ShortRoom)) E N out ≡ fed event_at n (housed s E N) es out
   unfolding fed
   small zero l h k = absurd (omega arith)
   small (suc n) l h k =
@@ -140,11 +144,11 @@ module _ (s : Session) (es E N out : List ℕ) where
       ∙ when_false _ _ _ (ne_eqb short_room 0 (λ z. omega arith))))
 
   pub run_small :
-      (refusal : ℕ) (r : Ran) → r ≡ stayed s refusal → refusal ≡ refuse_room (length E) (length N) → (refusal ≡ 0 → ⊥) → 8 ≤ length es →
+      (refusal : Refusal) (r : Ran) → r ≡ stayed s (Some refusal) → number refusal ≡ refuse_room (length E) (length N) → 8 ≤ length es →
       output_needed ≤ length out → Gives r
-  run_small refusal r e k f l h =
-      let p = room_short (length E) (length N) refusal k f in
-      still short_room r (e ∙ ap (stayed s) p.0) (small (length es / 8) (omega arith) h p.1)
+  run_small refusal r e k l h =
+      let p = room_short (length E) (length N) (number refusal) k (λ z. omega (arith, some_number refusal)) in
+      still (Some ShortRoom) r (e ∙ ap (λ (f : Refusal). stayed s (Some f)) (number_one refusal ShortRoom p.0)) (small (length es / 8) (omega arith) h p.1)
 
 -- any other block: k and l are how long the parts of the room are that were lent on
 
@@ -174,13 +178,14 @@ module _ (s : Session) (es E N out : List ℕ) (k l : ℕ) (ek : elements_needed
 
 -- by what feed gives
 pub run_within_lem :
-    (s t : Session) (es E N out : List ℕ) (n n' : Numbers) (taken listed refusal : ℕ) (E' N' out' : List ℕ) → n ≡ session_numbers s → t ≡ with_numbers s n' →
-    ◌≡◌ {A = Fed Seat} (record { seat = seat n' E' N'; taken = taken; listed = listed; refusal = refusal; out = out' })
+    (s t : Session) (es E N out : List ℕ) (n n' : Numbers) (taken listed : ℕ) (refusal : Option Refusal) (E' N' out' : List ℕ) →
+    n ≡ session_numbers s → t ≡ with_numbers s n' →
+    ◌≡◌ {A = Fed Seat} (record { seat = seat n' E' N'; taken = taken; listed = listed; refusal = fault_of refusal; out = out' })
     (fed (step_at (kept_in s.kept)) (length es / 8) (seat n E N) es out) →
     ran (record { session = t; taken = taken; listed = listed; refusal = refusal }) E' N' out' ≡ run_within s es E N out
 unfolding run_within
 run_within_lem s t es E N out n n' taken listed refusal E' N' out' Laid-as et e =
-    ap (λ (u : Session). record { seat = housed u E' N'; taken = taken; listed = listed; refusal = refusal; out = out' }) et
+    ap (λ (u : Session). record { seat = housed u E' N'; taken = taken; listed = listed; refusal = fault_of refusal; out = out' }) et
     ∙ ap (λ (f : Fed Seat). all_across (λ (x : Seat). housed (with_numbers s x.numbers) x.elements x.nodes) f)
     (e ∙ ap (λ (m : Numbers). fed (step_at (kept_in s.kept)) (length es / 8) (seat m E N) es out) Laid-as)
 
@@ -192,7 +197,7 @@ run_one s es E N out r r' A A' B B' o o' g g' =
     let e-session = ap (λ (f : Fed Housed). f.seat.session) e in
     let e-taken = ap (λ (f : Fed Housed). f.taken) e in
     let e-listed = ap (λ (f : Fed Housed). f.listed) e in
-    let e-refusal = ap (λ (f : Fed Housed). f.refusal) e in (
+    let e-refusal = fault_one r.refusal r'.refusal (ap (λ (f : Fed Housed). f.refusal) e) in (
       λ i. record { session = e-session i; taken = e-taken i; listed = e-listed i; refusal = e-refusal i },
       (ap (λ (f : Fed Housed). f.seat.elements) e, (ap (λ (f : Fed Housed). f.seat.nodes) e, ap (λ (f : Fed Housed). f.out) e)),
     )

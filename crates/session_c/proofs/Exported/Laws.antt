@@ -1,21 +1,28 @@
 -- What the calls give together, and that the promises allow one result.
 --
 --   begins_none, takes_none, runs_none, runs_uncounted, finishes_none, finishes_uncounted      a session, or counts, of another length
+--   refused_start      beside a fault of begin the session's bytes stay as they were
 --   begins_parts, runs_parts, finishes_parts      any other call but an event (Offered), by what the session's own call gives
 --   begins_one, takes_one, runs_one, finishes_one     two results that a promise allows are equal, and so is all that was lent
 --
 -- The session and what is large are given explicitly. Assumes nothing.
-use Rattle.std.specs.Prelude.{ℕ, ◌/◌, ◌≡◌, length}
+use Rattle.std.specs.Prelude.{ℕ, ◌/◌, ◌≡◌, refl, Result, Err, length}
 use Rattle.std.proofs.Math.Path.{sym, ap, ap₂}
 use Rattle.std.proofs.Common.{◌∙◌, eq-eqb, ne_eqb}
 use mathlib.Core.List.{List}
 use Rattle.choice.specs.When.{when_true, when_false}
+use Rattle.limits.specs.declared.Refusal.{Refusal}
+use Rattle.limits.specs.Number.{fault_of}
+use Rattle.query.specs.Answer as query
+use Rattle.query.specs.declared.QueryFault.TheVariants.{Length, Step}
 use Rattle.query_c.specs.Packed.{packed}
 use Rattle.feed.specs.Fed.{fed}
 use Rattle.session.specs.declared.Session.{Session}
+use Rattle.session.specs.declared.StartFault.{StartFault}
+use Rattle.session.specs.declared.StartFault.TheVariants.{ShortRoom, Query}
 use Rattle.session.specs.declared.Begun as given
 use Rattle.session.specs.declared.Ran.{Ran}
-use Rattle.session.specs.declared.Finish.{Finish}
+use Rattle.session.specs.declared.Counts.{Counts}
 use Rattle.session.specs.Begin.{said, BeginGives}
 use Rattle.session.specs.Event.{FinishGives}
 use Rattle.session.specs.Event as session
@@ -28,6 +35,13 @@ use Rattle.session_c.specs.Exported.{Blocked, moved_by, blocked_with, blocked, E
 use Rattle.session_c.specs.Exported.{Finished, end_number, counted_by, finished, ExportFinishes}
 
 -- begin
+
+-- beside a fault the session's bytes stay as they were
+pub refused_start : (f : StartFault) (t : Session) (S : List ℕ) → S ≡ started_by (said (Err f)) t S
+unfolding said query.said started_by
+refused_start ShortRoom t S = refl
+refused_start (Query Length) t S = refl
+refused_start (Query (Step k r)) t S = refl
 
 module _ (q E N S : List ℕ) where
   pub begins_none : (length S ≡ session_room → ⊥) → ExportBegins q E N S 255 S
@@ -76,12 +90,13 @@ module _ (S es E N out C : List ℕ) where
     runs_uncounted f = sym (when_true _ _ _ (eq-eqb _ _ long) ∙ when_false _ _ _ (ne_eqb _ _ f))
 
     pub runs_parts :
-        (s : Session) (d : Ran) (S' E' N' out' C' : List ℕ) → length C ≡ counts_room → s ≡ session_in S →
-        RunGives s es E N out d E' N' out' → S' ≡ moved_by d.taken d.refusal d.session S → C' ≡ count_bytes d.taken d.listed →
-        ExportRuns S es E N out C d.refusal S' E' N' out' C'
+        (s : Session) (d : Ran) (r : ℕ) (S' E' N' out' C' : List ℕ) → length C ≡ counts_room → s ≡ session_in S →
+        RunGives s es E N out d E' N' out' → S' ≡ moved_by d.taken (fault_of d.refusal) d.session S → C' ≡ count_bytes d.taken d.listed →
+        r ≡ fault_of d.refusal → ExportRuns S es E N out C r S' E' N' out' C'
     unfolding blocked
-    runs_parts s d S' E' N' out' C' wide e g eS eC =
-        ap₂ (λ (X Y : List ℕ). record { number = d.refusal; session = X; elements = E'; nodes = N'; out = out'; counts = Y }) eS eC
+    runs_parts s d r S' E' N' out' C' wide e g eS eC er =
+        ap (λ (n : ℕ). record { number = n; session = S'; elements = E'; nodes = N'; out = out'; counts = C' }) er
+        ∙ ap₂ (λ (X Y : List ℕ). record { number = fault_of d.refusal; session = X; elements = E'; nodes = N'; out = out'; counts = Y }) eS eC
         ∙ ap (blocked_with S) (g ∙ ap (λ (x : Session). fed event_at (length es / 8) (housed x E N) es out) e)
         ∙ sym (when_true _ _ _ (eq-eqb _ _ long) ∙ when_true _ _ _ (eq-eqb _ _ wide))
 
@@ -112,12 +127,12 @@ module _ (S C : List ℕ) where
     finishes_uncounted f = sym (when_true _ _ _ (eq-eqb _ _ long) ∙ when_false _ _ _ (ne_eqb _ _ f))
 
     pub finishes_parts :
-        (s : Session) (f : Finish) (r : ℕ) (C' : List ℕ) → length C ≡ counts_room → s ≡ session_in S → FinishGives s f → r ≡ end_number f →
+        (s : Session) (f : Result Counts Refusal) (r : ℕ) (C' : List ℕ) → length C ≡ counts_room → s ≡ session_in S → FinishGives s f → r ≡ end_number f →
         C' ≡ counted_by f C → ExportFinishes S C r C'
     unfolding finished
     finishes_parts s f r C' wide e g er eC =
         ap₂ (λ (n : ℕ) (X : List ℕ). record { number = n; counts = X }) er eC
-        ∙ ap (λ (x : Finish). record { number = end_number x; counts = counted_by x C }) (finish_is s f g ∙ ap session.finish e)
+        ∙ ap (λ (x : Result Counts Refusal). record { number = end_number x; counts = counted_by x C }) (finish_is s f g ∙ ap session.finish e)
         ∙ sym (when_true _ _ _ (eq-eqb _ _ long) ∙ when_true _ _ _ (eq-eqb _ _ wide))
 
   pub finishes_one :

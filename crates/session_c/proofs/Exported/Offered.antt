@@ -4,7 +4,7 @@
 --   takes_parts                     what `offer` gives on the bytes is what is owed of the session's event
 --
 -- What is large is given explicitly. Assumes nothing.
-use Rattle.std.specs.Prelude.{ℕ, ◌-◌, ◌*◌, Bool, not, eqb, length, drop}
+use Rattle.std.specs.Prelude.{ℕ, ◌*◌, Bool, not, eqb, length, drop}
 use Rattle.std.proofs.Math.Path.{◌≡◌, refl, sym, ap, subst}
 use Rattle.std.proofs.Common.{ap₂, ◌∙◌, eqb-true, eq-eqb, ne_eqb}
 use Rattle.std.proofs.Math.Bool.{true, false}
@@ -26,10 +26,10 @@ use Rattle.offer.proofs.Alike.{offered_said, offered_alike}
 use Rattle.session.specs.declared.Session.{Session}
 use Rattle.session.specs.declared.Answer.{Answer}
 use Rattle.session.specs.declared.Answer.TheVariants.{Refused, Taken}
-use Rattle.session.specs.Event.{session_numbers, with_numbers, answer_by, settled, event}
+use Rattle.session.specs.Event.{session_of, session_numbers, with_numbers, answer_by, settled, event}
 use Rattle.session.specs.Event.Laws.{there, event_refused}
-use Rattle.session_c.specs.Laid.{session_room, session_of, session_in, session_bytes, marked_bytes}
-use Rattle.session_c.proofs.Laid.Laws.{six, numbers_laid, rest_all, kept_all, back_all, back_bytes, marked_laid}
+use Rattle.session_c.specs.Laid.{session_room, session_in, session_bytes, marked_bytes}
+use Rattle.session_c.proofs.Laid.Laws.{six, numbers_laid, last_bytes, kept_all, rest_all, marked_laid}
 use Rattle.session_c.specs.Exported.{Took, number_of, laid_by, took_with, took, ExportTakes}
 use Rattle.session_c.specs.Exported.Offered.{event_number}
 
@@ -120,16 +120,15 @@ module _ (S bytes E N out : List ℕ) (long : length S ≡ session_room) (bytes-
     unfolding event_number
     takes_bytes = either (eqb refusal 0) refl ∙ sym took_is
 
-  -- by the parts of the session's bytes as the code lends them: what is kept was copied over the bytes k
+  -- by the parts of the session's bytes as the code lends them
   pub takes_parts :
-      (k kept : List ℕ) (i refusal listed number : ℕ) (nums E' N' out' : List ℕ) → length k ≡ 288 → i ≡ 288 →
-      kept ≡ take i (take 288 S) ++ drop i k → length nums ≡ numbers_room →
-      Bytes (take 288 S ++ (nums ++ drop (length S - 288) (drop 288 S))) →
-      came refusal listed (seat (numbers_in nums) E' N') out'
-      ≡ offered (kept_in kept) (seat (numbers_in (take (length S - 288) (drop 288 S))) E N) bytes out →
-      number ≡ event_number refusal listed →
-      ExportTakes S bytes E N out number (take 288 S ++ (nums ++ drop (length S - 288) (drop 288 S))) E' N' out'
-  takes_parts k kept i refusal listed number nums E' N' out' long-k is ek long-n bytes-b given er =
-      ap₂ (λ (x : ℕ) (X : List ℕ). record { number = x; session = X; elements = E'; nodes = N'; out = out' }) er (back_all S long nums)
-      ∙ takes_bytes refusal listed nums E' N' out' long-n (back_bytes S long nums bytes-b)
-      (given ∙ ap₂ (λ (x y : List ℕ). offered (kept_in x) (seat (numbers_in y) E N) bytes out) (kept_all S long k kept i long-k is ek) (rest_all S long))
+      (kept rest : List ℕ) (refusal listed number : ℕ) (nums E' N' out' : List ℕ) → kept ≡ take 288 S → rest ≡ drop 288 S →
+      length nums ≡ numbers_room → Bytes (kept ++ nums) →
+      came refusal listed (seat (numbers_in nums) E' N') out' ≡ offered (kept_in kept) (seat (numbers_in rest) E N) bytes out →
+      number ≡ event_number refusal listed → ExportTakes S bytes E N out number (kept ++ nums) E' N' out'
+  takes_parts kept rest refusal listed number nums E' N' out' ek en long-n bytes-b given er =
+      let front : kept ≡ take plan_room S = ek ∙ kept_all S in
+      ap₂ (λ (x : ℕ) (X : List ℕ). record { number = x; session = X ++ nums; elements = E'; nodes = N'; out = out' }) er front
+      ∙ takes_bytes refusal listed nums E' N' out' long-n (last_bytes kept nums bytes-b)
+      (given
+      ∙ ap₂ (λ (x y : List ℕ). offered (kept_in x) (seat (numbers_in y) E N) bytes out) front (en ∙ rest_all S))

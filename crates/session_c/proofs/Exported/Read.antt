@@ -27,10 +27,10 @@ use Rattle.feed.specs.Fed.{Came, Fed, and_then, one, fed}
 use Rattle.session.specs.declared.Session.{Session}
 use Rattle.session.specs.declared.Answer.{Answer}
 use Rattle.session.specs.declared.Answer.TheVariants.{Refused, Taken}
-use Rattle.session.specs.Event.{Done, stopped_by, event}
+use Rattle.session.specs.Event.{Done, session_of, stopped_by, event}
 use Rattle.session.specs.Event.Laws.{stopped_other, event_refused}
 use Rattle.session.specs.Run.{Housed, housed, refusal_of, came_as, event_at}
-use Rattle.session_c.specs.Laid.{session_room, session_of, session_in, marked_bytes, counts_room}
+use Rattle.session_c.specs.Laid.{session_room, session_in, marked_bytes, counts_room}
 use Rattle.session_c.proofs.Laid.Laws.{plan_room_lem, room_is, six, six_words, rest_long, rest_bytes, marked_is}
 use Rattle.session_c.specs.Exported.{Took, laid_by, took_with, took, Blocked, moved_by, blocked_with, blocked}
 

@@ -1,28 +1,20 @@
--- What is kept of the query is copied; the numbers are the rest. Assumes nothing.
-use native.Mathlib.Omega.{arith}
-use mathlib.Core.Path.{◌≡◌, refl, sym}
-use lib.ListN.{length, take}
-use lib.Seq.{length-take-le}
-use Rattle.session_c.proofs.Laid.Laws.{room_is, rest_room, read_parts}
-use Rattle.session_c.proofs.Copied.{copied}
+-- What is kept of the query, and the numbers. Assumes nothing.
+use Rattle.std.proofs.Common.{rules, arith, ap, ◌∙◌, ℕ, List}
+use Rattle.std.proofs.lemmas.Option.{MatchOption-at_some}
+use Rattle.numbers.specs.Numbers.{numbers_in}
+use Rattle.session.specs.Event.{session_of}
+use Rattle.session_c.proofs.Laid.Laws.{room_is, read_parts}
 use Rattle.session_c.proofs.session_in.Goals as goal
 
-pub slice_bounds-copy-end : goal.slice_bounds-copy-end
-slice_bounds-copy-end c = sym (length-take-le 288 c.args.room.now (omega (arith, room_is)))
+pub unwrap-requires : goal.unwrap-requires
+unwrap-requires c = c.split_first_chunk.ensures.variant.1 (omega (arith, room_is))
 
-pub copy-requires : goal.copy-requires
-copy-requires c = let S = c.args.room.now in
-    let l : length (take 288 S) ≡ 288 = length-take-le 288 S (omega (arith, room_is)) in omega arith
-
-pub slice_bounds-numbered-start : goal.slice_bounds-numbered-start
-slice_bounds-numbered-start c = omega (arith, room_is)
-
-pub slice_bounds-numbered-count : goal.slice_bounds-numbered-count
-slice_bounds-numbered-count c = omega (arith, room_is)
-
-pub numbered-requires : goal.numbered-requires
-numbered-requires c = rest_room c.args.room.now c.requires
+pub unwrap-requires-2 : goal.unwrap-requires-2
+unwrap-requires-2 c = let split = MatchOption-at_some _ _ _ c.unwrap.ensures c.split_first_chunk.ensures.cases in
+    c.as_array.ensures.variant.1 (omega (arith, room_is, split.2))
 
 pub returns : goal.returns
-returns c = read_parts c.args.room.now c.requires _ _ _ _ (copied (take 288 c.args.room.now) _ _ c.copy.ensures) c.numbered.ensures refl
-    (length-take-le 288 c.args.room.now (omega (arith, room_is)))
+returns c = let split = MatchOption-at_some _ _ _ c.unwrap.ensures c.split_first_chunk.ensures.cases in
+    read_parts c.args.room.now _ _ _ split.0 split.1
+    (c.numbered.ensures
+    ∙ ap (λ (ns : List ℕ). session_of c.unwrap.result.0.now (numbers_in ns)) (search (rules, c.as_array.ensures.cases, c.unwrap-2.ensures)))

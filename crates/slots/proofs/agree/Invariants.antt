@@ -1,13 +1,8 @@
 -- What is left to compare is the whole of it. Assumes nothing.
-use Prim.Native.Nat.{◌-◌, ◌≤◌}
 use mathlib.Core.Path.{◌≡◌}
-use lib.ListN.{length, drop}
+use lib.ListN.{drop}
 use Rattle.slots.specs.Copied.{agreed}
 use Rattle.slots.proofs.agree.Given as goal
 
 abbrev pub invariant-loop-at : goal.invariant-loop-at
-invariant-loop-at l =
-    (l.at ≤ length l.text) × (agreed l.room l.slot l.n l.from (drop l.from l.text) ≡ agreed l.room l.slot l.k l.at (drop l.at l.text))
-
-abbrev pub decreases-loop-at : goal.decreases-loop-at
-decreases-loop-at l = length l.text - l.at
+invariant-loop-at l = agreed l.room l.slot l.n l.from (drop l.from l.text) ≡ agreed l.room l.slot l.k l.at (drop l.at l.text)

@@ -1,15 +1,9 @@
 -- What is left to copy is the whole of it. Assumes nothing.
-use Prim.Native.Nat.{◌-◌, ◌≤◌}
 use mathlib.Core.Path.{◌≡◌}
-use lib.ListN.{length, drop}
+use lib.ListN.{drop}
 use Rattle.slots.specs.Copied.{copied}
 use Rattle.slots.proofs.copy.Given as goal
 
 abbrev pub invariant-loop-at : goal.invariant-loop-at
 invariant-loop-at l =
-    (l.at ≤ length l.text)
-    × (length l.room ≡ length l.initial.room)
-    × (copied l.marks l.initial.room l.slot l.n l.from (drop l.from l.text) ≡ copied l.marks l.room l.slot l.k l.at (drop l.at l.text))
-
-abbrev pub decreases-loop-at : goal.decreases-loop-at
-decreases-loop-at l = length l.text - l.at
+    copied l.marks l.initial.room l.slot l.n l.from (drop l.from l.text) ≡ copied l.marks l.room l.slot l.k l.at (drop l.at l.text)

@@ -1,11 +1,8 @@
 -- What is left to look at is the whole of it. Assumes nothing.
-use Prim.Native.Nat.{◌-◌, ◌≤◌}
+use Prim.Native.Nat.{◌-◌}
 use mathlib.Core.Path.{◌≡◌}
 use Rattle.slots.specs.Copied.{doubled_from, doubled_in}
 use Rattle.slots.proofs.doubled.Given as goal
 
 abbrev pub invariant-loop-k : goal.invariant-loop-k
-invariant-loop-k l = (l.k ≤ l.count) × (doubled_in l.room l.count l.n ≡ doubled_from l.room l.at l.n l.k (l.count - l.k))
-
-abbrev pub decreases-loop-k : goal.decreases-loop-k
-decreases-loop-k l = l.count - l.k
+invariant-loop-k l = doubled_in l.room l.count l.n ≡ doubled_from l.room l.at l.n l.k (l.count - l.k)

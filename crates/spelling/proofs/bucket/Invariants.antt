@@ -7,6 +7,3 @@ use Rattle.spelling.proofs.bucket.Given as goal
 
 abbrev pub invariant-loop-i : goal.invariant-loop-i
 invariant-loop-i l = ((l.i < l.n) × (l.h < mix_limit)) × (mixed_from l.word ((l.n - 1 - l.i) / 4) l.i l.h ≡ mixed_from l.word ((l.n - 1) / 4) 0 0)
-
-abbrev pub decreases-loop-i : goal.decreases-loop-i
-decreases-loop-i l = l.n - l.i

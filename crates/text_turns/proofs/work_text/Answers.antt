@@ -23,8 +23,8 @@ turns-init c =
           (omega (arith, room_is)) enough,
     )
 
-pub refill-filled-requires : goal.refill-filled-requires
-refill-filled-requires c =
+pub refill-requires : goal.refill-requires
+refill-requires c =
     let u = c.turns.invariant.1 in
     record { within_text = u.in_text.within; input_len_bound = (omega arith, omega (arith, u.in_text.few)) }
 
@@ -36,11 +36,11 @@ slice_bounds-work_block-end-in-turns c =
 pub work_block-state-requires : goal.work_block-state-requires
 work_block-state-requires c =
     let l = c.turns in
-    let more = more_is _ _ (sym c.more_to_do.ensures ∙ c.turns-test.true) in
+    let more = more_is l.stand.intake l.stand.state (sym c.more_to_do.ensures ∙ c.turns-test.true) in
     let lent =
     lent_enough (length l.room) (length c.args.index.now) (length l.events) (omega (arith, room_is, l.invariant.0.0.1.0)) c.requires.in_bounds.1.0
     (omega (arith, l.invariant.0.0.1.1.0)) in
-    let y = refill_so_far _ _ _ _ _ _ _ _ _ _ l.invariant.1 more _ _ _ _ lent (search rules) (omega (arith, l.invariant.0.0.0)) c.refill-filled.ensures in
+    let y = refill_so_far _ _ _ _ _ _ _ _ _ _ l.invariant.1 more _ _ _ _ lent (search rules) (omega (arith, l.invariant.0.0.0)) c.refill.ensures in
     let begun = started_as _ _ c.begin-stand.ensures c.requires.in_bounds.1.1 in
     record {
       unread_within = (y.so_far.within, omega (arith, l.invariant.0.0.1.1.1, l.invariant.0.1.1.1, c.requires.in_bounds.0));
@@ -50,11 +50,11 @@ work_block-state-requires c =
 pub turns-smaller : goal.turns-smaller
 turns-smaller c =
     let l = c.turns in
-    let more = more_is _ _ (sym c.more_to_do.ensures ∙ c.turns-test.true) in
+    let more = more_is l.stand.intake l.stand.state (sym c.more_to_do.ensures ∙ c.turns-test.true) in
     let lent =
     lent_enough (length l.room) (length c.args.index.now) (length l.events) (omega (arith, room_is, l.invariant.0.0.1.0)) c.requires.in_bounds.1.0
     (omega (arith, l.invariant.0.0.1.1.0)) in
-    let y = refill_so_far _ _ _ _ _ _ _ _ _ _ l.invariant.1 more _ _ _ _ lent (search rules) (omega (arith, l.invariant.0.0.0)) c.refill-filled.ensures in
+    let y = refill_so_far _ _ _ _ _ _ _ _ _ _ l.invariant.1 more _ _ _ _ lent (search rules) (omega (arith, l.invariant.0.0.0)) c.refill.ensures in
     let begun = started_as _ _ c.begin-stand.ensures c.requires.in_bounds.1.1 in
     turn_less _ _ _ _ _ _ _ _ _ _ l.invariant.1 more _ _ _ _ y begun.query begun.begun l.out _ _ _ c.work_block-state.ensures
     (omega arith) (omega (arith, output_is, l.invariant.0.0.1.1.1))
@@ -62,11 +62,11 @@ turns-smaller c =
 pub turns-preserved : goal.turns-preserved
 turns-preserved c =
     let l = c.turns in
-    let more = more_is _ _ (sym c.more_to_do.ensures ∙ c.turns-test.true) in
+    let more = more_is l.stand.intake l.stand.state (sym c.more_to_do.ensures ∙ c.turns-test.true) in
     let lent =
     lent_enough (length l.room) (length c.args.index.now) (length l.events) (omega (arith, room_is, l.invariant.0.0.1.0)) c.requires.in_bounds.1.0
     (omega (arith, l.invariant.0.0.1.1.0)) in
-    let y = refill_so_far _ _ _ _ _ _ _ _ _ _ l.invariant.1 more _ _ _ _ lent (search rules) (omega (arith, l.invariant.0.0.0)) c.refill-filled.ensures in
+    let y = refill_so_far _ _ _ _ _ _ _ _ _ _ l.invariant.1 more _ _ _ _ lent (search rules) (omega (arith, l.invariant.0.0.0)) c.refill.ensures in
     let begun = started_as _ _ c.begin-stand.ensures c.requires.in_bounds.1.1 in (
       (
         (search rules, (search rules, (search rules, search rules))),

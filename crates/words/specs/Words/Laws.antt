@@ -1,7 +1,7 @@
 -- What the numbers of bytes are, place by place.
 --
 --   words_at        the number at a place is that of its 4 bytes
---   words_put       a number written byte by byte is one number written
+--   words_put       the bytes of a number written at its place are one number written;  one_run: bytes that are copied to a place are written there
 --   words_length    how many numbers there are;  bytes_length: how many bytes
 --   bytes_words     the bytes of the numbers of bytes are these, where their length is a multiple of 4
 --   words_bytes     the numbers of the bytes of numbers under 2 ^ 32 are these
@@ -10,8 +10,11 @@
 --   bytes_same      so bytes of one length with the same numbers are the same
 --
 -- Assumes nothing.
-use Rattle.std.specs.Prelude.{ℕ, zero, suc, ◌+◌, ◌*◌, ◌/◌, ◌%◌, ◌≤◌, ◌<◌, ◌≡◌, refl, List, [], ◌∷◌, length, get_or, set}
-use Rattle.std.proofs.Common.{add-one, arith, sym, ap, ap₂, ◌∙◌}
+use borrow.Rule.Slice.PartMut.{put_mid, Post-is}
+use Rattle.std.specs.Prelude.{ℕ, zero, suc, ◌+◌, ◌-◌, ◌*◌, ◌/◌, ◌%◌, ◌≤◌, ◌<◌, ◌≡◌, refl, List, [], ◌∷◌, ◌++◌, length, get_or, set, take, drop}
+use Rattle.std.proofs.Common.{add-one, arith, sym, ap, ap₂, ◌∙◌, append_assoc}
+use Rattle.std.proofs.lemmas.List.Edits.{sets, sets-eq}
+use Rattle.std.specs.Int.{w32, to_le_bytes}
 use Rattle.choice.specs.Count.{add_two, add_three}
 use Rattle.words.specs.Words.{word, words, bytes_of, Bytes}
 
@@ -60,17 +63,19 @@ words_at bs i h =
     ∙ ap₂ (λ j k. word (get_or bs (4 * i) 0) (get_or bs (suc (4 * i)) 0) (get_or bs j 0) (get_or bs k 0)) (add_two (4 * i)) (add_three (4 * i))
     ∙ at_bytes bs i (4 * i) refl h
 
-module _ (bs : List ℕ) (i v : ℕ) where
-  -- the bytes of v from place i on
-  abbrev wrote : ℕ → ℕ → ℕ → List ℕ
-  wrote j k l = set (set (set (set bs (4 * i) (v % 256)) j (v / 256 % 256)) k (v / 256 / 256 % 256)) l (v / 256 / 256 / 256 % 256)
+le_word : (v : ℕ) → v < 4294967296 → word (v % 256) (v / 256 % 256) (v / 65536 % 256) (v / 16777216 % 256) ≡ v
+le_word v h = omega arith
 
-  pub words_put : 4 * i + 4 ≤ length bs → v < 4294967296 → words (wrote (4 * i + 1) (4 * i + 2) (4 * i + 3)) ≡ set (words bs) i v
-  words_put h l =
-      ap (λ j. words (wrote j (4 * i + 2) (4 * i + 3))) (add-one (4 * i))
-      ∙ ap₂ (λ j k. words (wrote (suc (4 * i)) j k)) (add_two (4 * i)) (add_three (4 * i))
-      ∙ put_bytes bs i (4 * i) _ _ _ _ refl h
-      ∙ ap (set (words bs) i) (word_bytes v l)
+-- bytes that were copied to a place are written there
+pub one_run :
+    (l vs ys : List ℕ) (at : ℕ) → ys ≡ vs → at + length vs ≤ length l → put_mid at (at + length vs - at) l ys ≡ sets l at vs
+one_run l vs ys at same fits =
+    ap₂ (λ x y. take at l ++ (x ++ y)) same (Post-is at (at + length vs) l (omega arith))
+    ∙ sym (append_assoc (take at l) vs (drop (at + length vs) l)) ∙ sym (sets-eq vs l at fits)
+
+pub words_put :
+    (bs : List ℕ) (i v : ℕ) → 4 * i + 4 ≤ length bs → v < 4294967296 → words (sets bs (4 * i) (to_le_bytes w32 v)) ≡ set (words bs) i v
+words_put bs i v h l = put_bytes bs i (4 * i) _ _ _ _ refl h ∙ ap (set (words bs) i) (le_word v l)
 
 pub words_length : (n : ℕ) (bs : List ℕ) → length bs ≡ 4 * n → length (words bs) ≡ n
 unfolding words

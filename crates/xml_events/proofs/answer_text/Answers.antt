@@ -1,14 +1,10 @@
 -- `xml_events::answer_text` meets its contract. Assumes nothing.
-use mathlib.Core.Logic.{inl, inr}
-use mathlib.Core.Path.{refl}
+use Rattle.std.proofs.Common.{rules, inl, inr}
 use Rattle.xml_events.specs.Program.Laws.{text_lined}
 use Rattle.xml_events.proofs.answer_text.Goals as goal
 
-pub returns-then-stand : goal.returns-then-stand
-returns-then-stand c =
-    let work = c.write_events-stand.ensures in
-    let opened = c.open-file.ensures in
-    inl (text_lined opened c.close.ensures (work.written_so c.if-stand.true) _ c.judge.ensures)
-
 pub returns : goal.returns
-returns c = inr (c.write_events-stand.ensures.failed c.if-stand.false, refl)
+returns c = inl (text_lined c.open-file.ensures c.close.ensures c.in_ok-read.ensures.read _ c.judge.ensures)
+
+pub returns-in_err-read : goal.returns-in_err-read
+returns-in_err-read c = inr (c.in_err-read.ensures.failed, search rules)

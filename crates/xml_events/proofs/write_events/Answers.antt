@@ -1,9 +1,13 @@
 -- `xml_events::write_events` meets its contract and ends. The invariant: what the turns have come to so far. Assumes nothing.
+use Rattle.std.specs.Prelude.{◌≡◌, Bool, true, false, refl, Option, IfSome, IfNone}
+use Rattle.std.specs.Bool.{then_some}
 use Rattle.std.proofs.Common.{rules}
 use native.Mathlib.Omega.{arith}
 use mathlib.Core.Path.{sym, ◌∙◌}
 use lib.Seq.{length-take-le}
 use Rattle.slots.specs.Slots.Laws.{room_is}
+use Rattle.system.specs.Marks.{Failed}
+use Rattle.xml_events.specs.Program.{ReadAll}
 use Rattle.xml_events.specs.Program.Laws.{begun_so_far, turn_less, turn_written, turn_room, turn_so_far, so_far_few, so_far_written}
 use Rattle.xml_events.proofs.write_events.Goals as goal
 
@@ -56,8 +60,16 @@ turns-preserved c =
           c.advance-intake.ensures _ c.write-written.ensures,
     )
 
+taken :
+    {A : Type 0} (P : A → Type 0) (Q : Type 0) (w : Bool) (x : A) (r : Option A) → r ≡ then_some w x → (w ≡ true → P x) → (w ≡ false → Q) →
+    IfSome r P × IfNone r Q
+taken P Q true x r e p q = rw e (p refl, tt)
+taken P Q false x r e p q = rw e (tt, q refl)
+
 pub returns : goal.returns
 returns c =
     let s = c.turns.invariant.1 in
     let stop = sym c.more_to_do.ensures ∙ c.turns-test.false in
-    record { few = so_far_few s; written_so = λ t. so_far_written s stop t; failed = λ t. s.failed t }
+    let both = taken (ReadAll c.args.names.now c.args.index.now c.args.file.now) Failed c.turns.written c.turns.intake c.then_some.result c.then_some.ensures
+    (λ t. so_far_written s stop t) (λ t. s.failed t) in
+    record { read = both.0; failed = both.1 }

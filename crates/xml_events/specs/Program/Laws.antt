@@ -8,7 +8,7 @@
 --   outcome_said, outcome_silent      the refusal is handed to standard error, or there is none
 --
 -- Assumes nothing.
-use Rattle.std.specs.Prelude.{ℕ, ◌+◌, ◌≤◌, ◌<◌, ◌⊎◌, ◌≡◌, Bool, length, take}
+use Rattle.std.specs.Prelude.{ℕ, ◌+◌, ◌≤◌, ◌<◌, ◌⊎◌, ◌≡◌, Bool, Option, None, Some, length, take}
 use Rattle.std.proofs.Common.{arith, inl, inr, ◌∙◌}
 use Rattle.std.proofs.Math.Path.{sym, ap, subst}
 use Rattle.std.proofs.Math.Bool.{true, false}
@@ -16,10 +16,10 @@ use mathlib.Core.List.{List, [], ◌++◌}
 use Rattle.std.proofs.Math.Dec.{eqb}
 use borrow.Author.Tests.{eqb-true, eqb-false, eq-eqb, ne_eqb}
 use Rattle.choice.specs.When.{when_true, when_false, when_known, never}
+use Rattle.limits.specs.Number.{text_of}
 use Rattle.xml.specs.Grammar.{Ev}
 use Rattle.xml.specs.Numbered.{numbered}
-use Rattle.listed.specs.Listed.{list_answer}
-use Rattle.listed.specs.declared.Listing.{Listing}
+use Rattle.listed.specs.Listed.{Listing, list_answer}
 use Rattle.names.specs.Answer.{BuildGives}
 use Rattle.names.proofs.Built.{build_finds, list_refused}
 use Rattle.names.specs.Number.{number_of}
@@ -33,15 +33,14 @@ use Rattle.lines.specs.Text.{refused_at_line}
 use Rattle.system.specs.declared.File.{File}
 use Rattle.system.specs.Marks.{FileOpened, FileClosed, WriteTold, ErrorTold, Delivered, delivered, none_yet, Failed}
 use Rattle.intake.specs.declared.Intake.{Intake}
-use Rattle.intake.specs.declared.Verdict.{Verdict}
-use Rattle.intake.specs.Owed.{text_events, text_verdict, number_in}
+use Rattle.intake.specs.Owed.{Judged, refused_at, text_events, text_verdict, number_in}
 use Rattle.intake.specs.Names.{NamesRead}
 use Rattle.intake.specs.Intake.{longest, begun, Advanced, verdict_for}
 use Rattle.intake.specs.Intake.Laws.{lent_enough}
 use Rattle.intake.specs.InText.{InText, begun_text, Onward, advance_text}
 use Rattle.intake.specs.Less.{text_left, advance_less}
 use Rattle.intake.specs.Catalogue.{catalogue_name, text_told}
-use Rattle.xml_events.specs.Program.{verdict_on, owed_records, Complained, silent, said, more_to_do, Written, TextLined, Lined, Answered, Outcome}
+use Rattle.xml_events.specs.Program.{verdict_on, owed_records, Complained, silent, said, more_to_do, ReadAll, TextLined, Lined, Answered, Outcome}
 
 pub record SoFar (N X : List ℕ) (file : File) (i : Intake) (input R : List ℕ) (written : Bool) : Type 0 where
   pub events : List Ev
@@ -77,11 +76,11 @@ going refusal ended written =
 -- one turn more
 
 module _ {N X : List ℕ} {file : File} {i : Intake} {input R : List ℕ} {w : Bool} (s : SoFar N X file i input R w)
-    (go : more_to_do i.refusal i.ended w ≡ true) (out : List ℕ) (indexed : index_words ≤ length X) (long-room : length R ≡ 18496)
+    (go : more_to_do (text_of i.refusal) i.ended w ≡ true) (out : List ℕ) (indexed : index_words ≤ length X) (long-room : length R ≡ 18496)
     (long-out : length out ≡ 32768) (long : length input ≡ 65536) (i' : Intake) (input' R' out' : List ℕ) (long' : length input' ≡ 65536)
     (a : Advanced N X file i input R out i' input' R' out') where
-  abbrev g : Going i.refusal i.ended w
-  g = going i.refusal i.ended w go
+  abbrev g : Going (text_of i.refusal) i.ended w
+  g = going (text_of i.refusal) i.ended w go
 
   lent : too_scant (length R) (length X) (length out) ≡ false
   lent = lent_enough (length R) (length X) (length out) (omega (arith, room_is, long-room)) indexed (omega arith)
@@ -128,18 +127,19 @@ over_by refusal ended written h t =
     (λ z k. inl (eqb-false _ _ z)) h
 
 pub so_far_written :
-    {N X : List ℕ} {file : File} {i : Intake} {input R : List ℕ} {w : Bool} → SoFar N X file i input R w → more_to_do i.refusal i.ended w ≡ false →
-    w ≡ true → Written N X file i
+    {N X : List ℕ} {file : File} {i : Intake} {input R : List ℕ} {w : Bool} → SoFar N X file i input R w → more_to_do (text_of i.refusal) i.ended w ≡ false →
+    w ≡ true → ReadAll N X file i
 so_far_written {i = i} {w = w} s stop t =
     record {
+      few = so_far_few s;
       events = s.events;
-      told = text_told s.in_text (over_by i.refusal i.ended w stop t);
+      told = text_told s.in_text (over_by (text_of i.refusal) i.ended w stop t);
       delivered = s.delivered_so t;
     }
 
 pub text_lined :
-    {N X : List ℕ} {file : File} {i : Intake} → FileOpened catalogue_name file → FileClosed file → Written N X file i → (v : Verdict) → v ≡ verdict_for i →
-    TextLined N X v
+    {N X : List ℕ} {file : File} {i : Intake} → FileOpened catalogue_name file → FileClosed file → ReadAll N X file i → (v : Option Judged) →
+    v ≡ verdict_for i → TextLined N X v
 text_lined {N} {X} {file} op cl w v e =
     record {
       text = w.told.text;
@@ -154,7 +154,7 @@ module _ (names x y : List ℕ) (r : Listing) (gives : BuildGives names x y r) (
   same : r ≡ list_answer names
   same = list_refused names x y r gives enough
 
-  pub list_lined : (r.refusal ≡ 0 → ⊥) → (v : Verdict) → v ≡ record { refusal = r.refusal; at = r.line } → Lined v
+  pub list_lined : (r.refusal ≡ 0 → ⊥) → (v : Option Judged) → v ≡ refused_at r.refusal r.line → Lined v
   unfolding verdict_on owed_records
   list_lined z v e =
       let q : eqb (list_answer names).refusal 0 ≡ false = ne_eqb _ _ (λ y. z (ap (λ (a : Listing). a.refusal) same ∙ y)) in
@@ -164,12 +164,12 @@ module _ (names x y : List ℕ) (r : Listing) (gives : BuildGives names x y r) (
         names_read = read;
         text_read = λ y. absurd (z (ap (λ (a : Listing). a.refusal) same ∙ y));
         verdict_so =
-            e ∙ ap (λ (a : Listing). record { refusal = a.refusal; at = a.line }) same
-            ∙ sym (when_false _ (text_verdict []) (record { refusal = (list_answer names).refusal; at = (list_answer names).line }) q);
+            e ∙ ap (λ (a : Listing). refused_at a.refusal a.line) same
+            ∙ sym (when_false _ (text_verdict []) (refused_at (list_answer names).refusal (list_answer names).line) q);
         delivered = subst Delivered (sym (when_false _ (records_in (number_in names) (text_events [])) [] q)) none_yet;
       }
 
-  pub names_lined : r.refusal ≡ 0 → (v : Verdict) → TextLined names y v → Lined v
+  pub names_lined : r.refusal ≡ 0 → (v : Option Judged) → TextLined names y v → Lined v
   unfolding verdict_on owed_records number_in
   names_lined z v l =
       let q : eqb (list_answer names).refusal 0 ≡ true = eq-eqb _ _ (sym (ap (λ (a : Listing). a.refusal) same) ∙ z) in
@@ -191,7 +191,7 @@ answered_by f (inr y) = inr y
 
 -- the end
 
-completed : (v : Verdict) → Lined v → Complained v → Outcome
+completed : (v : Option Judged) → Lined v → Complained v → Outcome
 completed v l c =
     inl
     (record {
@@ -203,10 +203,11 @@ completed v l c =
       complained = subst Complained l.verdict_so c;
     })
 
-pub outcome_silent : (v : Verdict) → Answered v → v.refusal ≡ 0 → Outcome
-outcome_silent v (inl l) z = completed v l (silent z)
-outcome_silent v (inr f) z = inr f.0
+pub outcome_silent : Answered None → Outcome
+outcome_silent (inl l) = completed None l silent
+outcome_silent (inr f) = inr f.0
 
-pub outcome_said : (v : Verdict) → Answered v → (bytes : List ℕ) (taken : Bool) → bytes ≡ refused_at_line v.refusal v.at → ErrorTold bytes taken → Outcome
-outcome_said v (inl l) bytes taken e t = completed v l (said taken (subst (λ (z : List ℕ). ErrorTold z taken) e t))
+pub outcome_said :
+    (v : Judged) → Answered (Some v) → (bytes : List ℕ) (taken : Bool) → bytes ≡ refused_at_line v.refusal v.at → ErrorTold bytes taken → Outcome
+outcome_said v (inl l) bytes taken e t = completed (Some v) l (said taken (subst (λ (z : List ℕ). ErrorTold z taken) e t))
 outcome_said v (inr f) bytes taken e t = inr f.0

@@ -1,8 +1,8 @@
 -- What stands in the way of any event, then the needed part of the room. Assumes nothing.
-use native.Mathlib.Omega.{arith}
-use mathlib.Core.Path.{sym, ◌∙◌}
-use lib.Seq.{length-take-le}
+use Rattle.std.proofs.Common.{rules, arith, ◌∙◌, ℕ, List}
+use Rattle.std.proofs.Math.Path.{ap₂}
 use Rattle.meaning.proofs.Limits.Laws.{output_is, elements_is, nodes_is}
+use Rattle.session.specs.Run.{run_within}
 use Rattle.session.specs.Run.Laws.{run_few, run_short, run_small, run_parts}
 use Rattle.session.proofs.Session.run.Goals as goal
 
@@ -17,41 +17,25 @@ returns-then-out-lt-OUTPUT c = let stays = run_short c.args.self c.args.events.n
     (omega (arith, output_is)) in
     record { run_gives = stays.0; taken_in_bounds = stays.1 }
 
-pub returns-then-room-ne0 : goal.returns-then-room-ne0
-returns-then-room-ne0 c = let stays = run_small c.args.self c.args.events.now c.args.elements.now c.args.nodes.now c.args.out.now _ _
-    c.stays-then-room-ne0.ensures
-    c.refuse_room-room.ensures.0 c.if-room-ne0.true c.if-events-lt8.false (omega (arith, output_is)) in
+pub returns-in-Err : goal.returns-in-Err
+returns-in-Err c = let stays = run_small c.args.self c.args.events.now c.args.elements.now c.args.nodes.now c.args.out.now _ _
+    c.stays-in-Err.ensures c.in-Err.ensures.fault c.if-events-lt8.false (omega (arith, output_is)) in
     record { run_gives = stays.0; taken_in_bounds = stays.1 }
 
-pub slice_bounds-run_within-end : goal.slice_bounds-run_within-end
-slice_bounds-run_within-end c = let fits = c.refuse_room-room.ensures.1 c.if-room-ne0.false in
-    omega (arith, elements_is, fits.deep)
+pub unwrap-requires : goal.unwrap-requires
+unwrap-requires c = c.first_chunk_mut.ensures.variant.1 (omega (arith, elements_is, c.in-Ok.ensures.fits.deep))
 
-pub slice_bounds-run_within-end-2 : goal.slice_bounds-run_within-end-2
-slice_bounds-run_within-end-2 c = let fits = c.refuse_room-room.ensures.1 c.if-room-ne0.false in
-    let elements = c.args.elements.now in
-    sym (length-take-le _ elements (omega (arith, elements_is, fits.deep)))
+pub unwrap-requires-in-Ok : goal.unwrap-requires-in-Ok
+unwrap-requires-in-Ok c = c.first_chunk_mut-in-Ok.ensures.variant.1 (omega (arith, nodes_is, c.in-Ok.ensures.fits.held))
 
-pub slice_bounds-run_within-end-3 : goal.slice_bounds-run_within-end-3
-slice_bounds-run_within-end-3 c = let fits = c.refuse_room-room.ensures.1 c.if-room-ne0.false in
-    omega (arith, nodes_is, fits.held)
-
-pub slice_bounds-run_within-end-4 : goal.slice_bounds-run_within-end-4
-slice_bounds-run_within-end-4 c = let fits = c.refuse_room-room.ensures.1 c.if-room-ne0.false in
-    let nodes = c.args.nodes.now in
-    sym (length-take-le _ nodes (omega (arith, nodes_is, fits.held)))
-
-pub run_within-requires : goal.run_within-requires
-run_within-requires c = let fits = c.refuse_room-room.ensures.1 c.if-room-ne0.false in (
-  length-take-le _ c.args.elements.now (omega (arith, elements_is, fits.deep)) ∙ sym elements_is,
-  length-take-le _ c.args.nodes.now (omega (arith, nodes_is, fits.held)) ∙ sym nodes_is,
-)
-
-pub returns : goal.returns
-returns c = let fits = c.refuse_room-room.ensures.1 c.if-room-ne0.false in
+pub returns-in-Ok : goal.returns-in-Ok
+returns-in-Ok c = let fits = c.in-Ok.ensures.fits in
     record {
       run_gives = run_parts c.args.self c.args.events.now c.args.elements.now c.args.nodes.now c.args.out.now _ _ elements_is nodes_is
-          (omega (arith, elements_is, fits.deep)) (omega (arith, nodes_is, fits.held)) _ _ _ _ c.run_within.ensures.out_after;
-      taken_in_bounds =
-          c.run_within.ensures.taken_in_bounds;
+          (omega (arith, elements_is, fits.deep)) (omega (arith, nodes_is, fits.held)) _ _ _ _
+          (c.run_within.ensures.out_after
+          ∙ ap₂ (λ (E N : List ℕ). run_within c.args.self c.args.events.now E N c.args.out.now)
+          (search (rules, c.first_chunk_mut.ensures.cases, c.unwrap.ensures))
+          (search (rules, c.first_chunk_mut-in-Ok.ensures.cases, c.unwrap-in-Ok.ensures)));
+      taken_in_bounds = c.run_within.ensures.taken_in_bounds;
     }

@@ -1,0 +1,2 @@
+-- The proofs of crate lent.
+pub mod Limits

@@ -1,8 +1,0 @@
--- Each number as it was read. Assumes nothing.
-use Rattle.numbers.specs.Numbers.{numbers_in}
-use Rattle.session.specs.Event.Laws.{with_parts}
-use Rattle.session.proofs.Session.with.Goals as goal
-
-pub returns : goal.returns
-returns c = with_parts c.args.self (numbers_in c.args.numbers.now) _ _ _ _ _ _ c.get.ensures c.get-2.ensures c.get-3.ensures
-    c.get-4.ensures c.get-5.ensures c.get-6.ensures

@@ -1,2 +1,0 @@
--- The proofs of crate tags.
-pub mod Found
