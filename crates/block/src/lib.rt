@@ -1,13 +1,23 @@
 // One block of events: those of what is read that are whole, and the lines of what they hand out, handed to standard output.
 #![tactic(auto)]
 
-ghost use Rattle.std.specs.Prelude.{◌*◌, ◌≤◌, length};
+ghost use Rattle.std.specs.Prelude.{◌*◌, ◌≤◌, length, take};
 ghost use Rattle.meaning.specs.Limits.{node_limit};
+ghost use Rattle.io.specs.Counts.{IsPrefixLen};
+ghost use Rattle.system.specs.Marks.{WriteTold};
 ghost use Rattle.reads.specs.State.{UnreadWithin};
 ghost use Rattle.block.specs.Worked.{Worked};
 
 use reads::State;
 use std::io::Stdout;
+
+// Hands the first `length` bytes of the text to standard output.
+pub fn write_text(to: Stdout, text: &[u8], length: usize) -> bool
+    requires { IsPrefixLen length text.now }
+    ensures { WriteTold (take length text.now) result }
+{
+    system::write(to, &text[..length])
+}
 
 // Works on what is read, and writes the lines.
 pub fn work_block(
@@ -27,7 +37,7 @@ pub fn work_block(
     let events = &input[state.from..state.end];
     let ran = state.session.run(events, elements, nodes, out);
     let length = lines::put_lines(&*out, ran.listed, text);
-    let written = system::write(to, &text[..length]);
+    let written = write_text(to, &*text, length);
     State {
         session: ran.session,
         from: state.from + 8 * ran.taken,

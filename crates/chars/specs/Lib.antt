@@ -2,4 +2,5 @@ pub mod Marks
 pub mod Forms
 pub mod Same
 pub mod Entities
+pub mod Said
 pub mod Table

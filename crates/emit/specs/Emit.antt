@@ -4,12 +4,13 @@
 --   both_in out w x             the records of an open and a close of the name x, from w on
 --   opened, closed             after an open, whose number is kept in its slot, and after a close
 --   emitted names x r R out w        after what the reader r gives, in the list `names` with its index x
+--   in_gives, both_as          by what was found that it gives; by the name that was found
 --   numbers                     how great the number of a name is, for a proof that goes by it
 --   emitted_within, written_within      two records at most are written
 --
 -- R is the room. Assumes nothing.
 use Rattle.std.specs.Prelude.{ℕ, ◌+◌, ◌≤◌, ◌≡◌, List}
-use Rattle.std.proofs.Common.{arith, sym, subst}
+use Rattle.std.proofs.Common.{arith, sym, ap, ap₂, ◌∙◌, subst}
 use Rattle.std.proofs.lemmas.List.Edits.{sets}
 use Rattle.records.specs.Event.{event_bytes}
 use Rattle.slots.specs.Slots.{name_in, number_in, numbered}
@@ -52,6 +53,23 @@ emitted_by gives.Remark names x p R out w = both R out w 65_535
 
 unfoldable pub emitted : List ℕ → List ℕ → Reader → List ℕ → List ℕ → ℕ → Emitted
 emitted names x r R out w = emitted_by r.gives names x r.place R out w
+
+pub in_gives :
+    (names x : List ℕ) (r : Reader) (R out : List ℕ) (w : ℕ) {k : Gives} {z : Emitted}
+    → r.gives ≡ k
+    → z ≡ emitted_by k names x r.place R out w
+    → z ≡ emitted names x r R out w
+unfolding emitted
+in_gives names x r R out w e h = h ∙ ap (λ g. emitted_by g names x r.place R out w) (sym e)
+
+-- two records with the name x, which is the one that is meant
+pub both_as :
+    (R out : List ℕ) (w : ℕ) {x y v : ℕ} {l : List ℕ}
+    → l ≡ both_in out w x
+    → v ≡ w + 16
+    → x ≡ y
+    → ◌≡◌ {A = Emitted} (record { room = R; out = l; written = v }) (both R out w y)
+both_as R out w e f g = ap₂ (λ l v. record { room = R; out = l; written = v }) (e ∙ ap (both_in out w) g) f
 
 -- what a number that was looked up is
 pub ruleset numbers = (number_within, unknown_is)

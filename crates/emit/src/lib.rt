@@ -39,7 +39,7 @@ fn put(out: &mut [u8], written: usize, event: Event) -> usize
     requires { written + 8 ≤ length out.old }
     ensures { (out.new ≡ sets out.old written (bytes_as event)) × (result ≡ written + 8) }
 {
-    records::put_event(out, written, event);
+    records::write_event(out, written, event);
     written + 8
 }
 

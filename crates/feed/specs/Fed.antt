@@ -7,13 +7,15 @@
 --   one c                    one event, which came to c
 --   and_then r f              r, and then f with the part of the buffer that r left
 --   fed take-one n s es out      the first n records of es, one event after the other; a refused event is the last
---   Underway .. r            r is a first part of the events of es, none of them refused
---   rest_of a xs, given_back a xs ys      a part of a slice as code lends it, and the slice when it is given back
+--   resumed take-one n es r      r, and then what is left of the first n records of es
+--   Underway .. r            r is a first part of the events of es;  UnderwayUnrefused .. r: one in which none was refused
+--   goes_on left refusal room     another event is looked at; Goes: what is then known
+--   record_at a es, rest_of a xs, given_back a xs ys      parts of slices as code lends them, and the slice when one is given back
 --
 -- Assumes nothing. NOT here: what one event does (Steps).
 pub mod Laws
 pub mod Across
-use Rattle.std.specs.Prelude.{ℕ, zero, suc, ◌+◌, ◌-◌, ◌*◌, ◌/◌, ◌≤◌, ◌≡◌, List, ◌++◌, eqb, ltb, length, take, drop}
+use Rattle.std.specs.Prelude.{ℕ, zero, suc, ◌+◌, ◌-◌, ◌*◌, ◌/◌, ◌≤◌, ◌<◌, ◌≡◌, Bool, false, List, ◌++◌, eqb, leb, ltb, length, take, drop}
 use mir.Val.{bool_byte}
 use Rattle.choice.specs.When.{when}
 use Rattle.meaning.specs.Limits.{output_needed}
@@ -58,7 +60,19 @@ module _ {S : Type 0} where
         when (ltb (length out) output_needed) (none s out)
         (when (eqb c.refusal 0) (and_then (one c) (fed n c.seat (drop 8 es) (drop (4 * c.listed) c.out))) (one c))
 
+    unfoldable pub resumed : ℕ → List ℕ → Fed S → Fed S
+    resumed n es r =
+        when (eqb r.refusal 0)
+        (and_then r (fed (n - r.taken) r.seat (drop (8 * r.taken) es) (drop (4 * r.listed) r.out)))
+        r
+
     pub record Underway (s : S) (es out : List ℕ) (r : Fed S) : Type 0 where
+      pub told : resumed (length es / 8) es r ≡ fed (length es / 8) s es out
+      pub within : r.taken ≤ length es / 8
+      pub fits : 4 * r.listed ≤ length r.out
+      pub long : length r.out ≡ length out
+
+    pub record UnderwayUnrefused (s : S) (es out : List ℕ) (r : Fed S) : Type 0 where
       pub told :
           and_then r (fed (length es / 8 - r.taken) r.seat (drop (8 * r.taken) es) (drop (4 * r.listed) r.out)) ≡ fed (length es / 8) s es out
       pub within : r.taken ≤ length es / 8
@@ -66,10 +80,23 @@ module _ {S : Type 0} where
       pub long : length r.out ≡ length out
       pub unrefused : r.refusal ≡ 0
 
+-- what the loop tests
+
+unfoldable pub goes_on : ℕ → ℕ → ℕ → Bool
+goes_on left refusal room = when (eqb left 0) false (when (eqb refusal 0) (leb output_needed room) false)
+
+pub record Goes (left refusal room : ℕ) : Type 0 where
+  pub more : 0 < left
+  pub unrefused : refusal ≡ 0
+  pub wide : output_needed ≤ room
+
 -- parts of slices
 
 abbrev pub rest_of : ℕ → List ℕ → List ℕ
 rest_of a xs = take (length xs - a) (drop a xs)
+
+abbrev pub record_at : ℕ → List ℕ → List ℕ
+record_at a es = take (a + 8 - a) (drop a es)
 
 abbrev pub given_back : ℕ → List ℕ → List ℕ → List ℕ
 given_back a xs ys = take a xs ++ (ys ++ drop (length xs - a) (drop a xs))

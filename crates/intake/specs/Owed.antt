@@ -1,7 +1,7 @@
 -- What a text comes to: its events, and the refusal that it gets.
 --
 --   Judged               a verdict with its refusal's number
---   judged v             the code's verdict so
+--   judged v             the code's verdict so;  judged_one: two verdicts of the code that are the same so are equal
 --   refused_at r k        the verdict that refuses with r at k
 --   verdict_by n z        the verdict on a text of n bytes of which the machine came to z
 --   text_verdict t        THE VERDICT on a text: the refusal and its byte, counted from 1, or none
@@ -11,11 +11,14 @@
 --   refused_later, refused_same      what follows a refused byte changes nothing of this
 --
 -- Assumes nothing. NOT here: which texts are read, and with which events (crate xml), what a list of names may have (crate listed).
-use Rattle.std.specs.Prelude.{ℕ, ◌+◌, ◌-◌, ◌≡◌, List, ◌++◌, Option, None, Some, length}
-use Rattle.std.proofs.Common.{arith, ◌∙◌, sym, length-append}
+use Rattle.std.specs.Prelude.{ℕ, ◌+◌, ◌-◌, ◌≡◌, refl, List, ◌++◌, Option, None, Some, length}
+use Rattle.std.proofs.Common.{arith, ◌∙◌, sym, ap₂, length-append}
+use Rattle.std.proofs.lemmas.Option.{same_Some, none-some}
 use Rattle.std.proofs.Math.Path.{ap}
 use Rattle.choice.specs.When.{when}
+use Rattle.limits.specs.declared.TextRefusal.{TextRefusal}
 use Rattle.limits.specs.Number.{text_number}
+use Rattle.limits.specs.Number.Laws.{text_one}
 use Rattle.xml.specs.Refused.{unended}
 use Rattle.xml.specs.Grammar.{Ev}
 use Rattle.xml.specs.Machine.{State, Result, stopped, stands, run}
@@ -38,6 +41,17 @@ refused_at r k = Some (record { refusal = r; at = k })
 abbrev pub judged : Option Verdict → Option Judged
 judged None = None
 judged (Some v) = refused_at (text_number v.refusal) v.at
+
+same_parts : (v w : Judged) → Some v ≡ Some w → (v.refusal ≡ w.refusal) × (v.at ≡ w.at)
+same_parts v w e = let f = same_Some v w e in (ap (λ (j : Judged). j.refusal) f, ap (λ (j : Judged). j.at) f)
+
+pub judged_one : (v w : Option Verdict) → judged v ≡ judged w → v ≡ w
+judged_one None None e = refl
+judged_one None (Some w) e = absurd (none-some _ e)
+judged_one (Some v) None e = absurd (none-some _ (sym e))
+judged_one (Some v) (Some w) e =
+    let f = same_parts _ _ e in
+    ap Some (ap₂ (λ (r : TextRefusal) (k : ℕ). record { refusal = r; at = k }) (text_one v.refusal w.refusal f.0) f.1)
 
 -- "the byte is the one that the refusal is given at, counted from 1"; 44: "one past the last byte"
 abbrev pub verdict_by : ℕ → Result → Option Judged

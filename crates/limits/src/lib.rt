@@ -9,29 +9,29 @@ ghost use Rattle.limits.specs.Number.{number, reason_number, text_number};
 #[derive(Clone, Copy, PartialEq, Eq)]
 pub enum Refusal {
     // "output buffer under 4,100 bytes"
-    ShortOutput = 1,
+    ShortOutput = SHORT_OUTPUT as isize,
     // "not 8 bytes, or a bad record"
-    BadRecord = 2,
+    BadRecord = BAD_RECORD as isize,
     // "the document element has been closed"
-    AfterEnd = 3,
+    AfterEnd = AFTER_END as isize,
     // "a close with nothing open, or with another name than the innermost open element"
-    WrongClose = 4,
+    WrongClose = WRONG_CLOSE as isize,
     // "an open at depth 256"
-    TooDeep = 5,
+    TooDeep = TOO_DEEP as isize,
     // "an open when 16,777,215 nodes have been opened"
-    TooManyNodes = 6,
+    TooManyNodes = TOO_MANY_NODES as isize,
     // "an open after which more than 1,024 nodes would be held"
-    TooManyHeld = 7,
+    TooManyHeld = TOO_MANY_HELD as isize,
     // "no document element yet, or it is still open"
-    Unfinished = 8,
+    Unfinished = UNFINISHED as isize,
     // "query of 0 bytes, of a length not a multiple of 8, or over 256 bytes"
-    BadLength = 9,
+    BadLength = BAD_LENGTH as isize,
     // "a step breaks a rule; comes with the first such step's number, and a reason"
-    BadStep = 10,
+    BadStep = BAD_STEP as isize,
     // "the session is stopped"
-    Stopped = 11,
+    Stopped = ALREADY_STOPPED as isize,
     // "lent room under 16,384 bytes for the open elements or under 32,768 bytes for the waiting nodes"
-    ShortRoom = 15,
+    ShortRoom = SHORT_ROOM as isize,
 }
 
 impl Refusal {
@@ -45,12 +45,12 @@ impl Refusal {
 // Why a step of a query is at fault, by its number.
 #[derive(Clone, Copy, PartialEq, Eq)]
 pub enum Reason {
-    Axis = 1,
-    Role = 2,
+    Axis = BAD_AXIS as isize,
+    Role = BAD_ROLE as isize,
     // what it hangs on
-    Hang = 3,
+    Hang = BAD_HANG as isize,
     // "a byte that must be 0"
-    Zero = 4,
+    Zero = BAD_ZERO as isize,
 }
 
 impl Reason {
@@ -65,45 +65,45 @@ impl Reason {
 #[derive(Clone, Copy, PartialEq, Eq)]
 pub enum TextRefusal {
     // "no text that is read goes on with this byte, and none of 31 to 43 applies"
-    Misplaced = 30,
+    Misplaced = MISPLACED as isize,
     // "a byte does not go on as the UTF-8 form of a Char"
-    NotChar = 31,
+    NotChar = NOT_CHAR as isize,
     // a document type
-    Doctype = 32,
+    Doctype = DOCTYPE as isize,
     // a processing instruction
-    Instruction = 33,
+    Instruction = INSTRUCTION as isize,
     // a CDATA section
-    Cdata = 34,
+    Cdata = CDATA as isize,
     // a character reference
-    CharReference = 35,
+    CharReference = CHAR_REFERENCE as isize,
     // "a byte with which none of the five entities goes on"
-    OtherEntity = 36,
+    OtherEntity = OTHER_ENTITY as isize,
     // "a tag's or an attribute's name goes on after 64 bytes"
-    LongName = 37,
+    LongName = LONG_NAME as isize,
     // "a 17th attribute begins on a tag"
-    ManyAttributes = 38,
+    ManyAttributes = MANY_ATTRIBUTES as isize,
     // an attribute's name for the second time
-    Twice = 39,
+    Twice = TWICE as isize,
     // "an end tag spells another name than its start tag"
-    OtherEnd = 40,
+    OtherEnd = OTHER_END as isize,
     // "an element begins inside 256 others"
-    Nested = 41,
+    Nested = NESTED as isize,
     // another encoding
-    OtherEncoding = 42,
+    OtherEncoding = OTHER_ENCODING as isize,
     // a name beyond ASCII
-    ForeignName = 43,
+    ForeignName = FOREIGN_NAME as isize,
     // "the text ends, and it is not a whole document"
-    Unended = 44,
+    Unended = UNENDED as isize,
     // "less room is lent than a call needs"
-    Scant = 45,
+    Scant = SCANT as isize,
     // the reader is stopped
-    ReaderStopped = 46,
+    ReaderStopped = READER_STOPPED as isize,
     // "the list has a 65,534th line"
-    ManyNames = 47,
+    ManyNames = MANY_NAMES as isize,
     // "a line of the list is a name of more than 64 bytes"
-    LongListed = 48,
+    LongListed = LONG_LISTED as isize,
     // "a line of the list is no name"
-    NotName = 49,
+    NotName = NOT_NAME as isize,
 }
 
 impl TextRefusal {

@@ -2,7 +2,7 @@
 --
 --   listing r      the answer that a result of the code stands for: 0 and 0 where there is no fault
 --
--- Assumes nothing. NOT here: which answer a list gets (Listed).
+-- Assumes nothing. NOT here: which answer a list gets (Listed), that it stands for no other result (proofs/Answer).
 use Rattle.std.specs.Prelude.{Result, Ok, Err}
 use Rattle.limits.specs.Number.{text_number}
 use Rattle.listed.specs.declared.ListFault.{ListFault}

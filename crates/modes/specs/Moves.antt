@@ -11,6 +11,7 @@
 --   refused_test o          the number of a refusal is 0 exactly where there is none
 --
 -- Assumes nothing.
+pub mod Laws
 use Rattle.std.specs.Prelude.{ℕ, ◌≡◌, refl, not, eqb, Option, Some, None, is_some}
 use Rattle.std.proofs.Common.{arith, ne_eqb}
 use Rattle.choice.specs.When.{when}

@@ -1,8 +1,8 @@
 -- The three answers of a build, over plain lists.
 --
 --   answer_scant      too few words: nothing is written
---   answer_refused    a list at fault: nothing is written;  answer_passed: the same as `?` passes it on
---   answer_built      a list that is taken: the index is built;  answer_ready: it may be
+--   answer_refused    a list at fault: nothing is written;  refusal_told: the same by the refusal;  answer_passed: as `?` passes it on
+--   answer_built      a list that is taken: the index is built;  none_told: the same where there is no fault;  answer_ready: it may be
 --
 -- Assumes nothing.
 use Prim.Native.Nat.{ℕ, ◌≤◌, ◌<◌}
@@ -34,30 +34,40 @@ module _ (names x : List ℕ) where
       let few = lt-ltb (length x) index_words (omega (arith, index_words_is)) in
       record { answer = when_yes _ _ _ _ few refl; words = when_yes _ _ _ _ few refl }
 
-  module _ (enough : 196602 ≤ length x) where
+  module _ (y : List ℕ) (r : Listing) (enough : 196602 ≤ length x) (told : r ≡ list_answer names) where
     room : ltb (length x) index_words ≡ false
     room = le-ltb (length x) index_words (omega (arith, index_words_is))
 
-    pub answer_refused : (r : TextRefusal) (n : ℕ) → refused (text_number r) n ≡ list_answer names → BuildGives names x x (refused (text_number r) n)
+    pub answer_refused : (r.refusal ≡ 0 → ⊥) → y ≡ x → BuildGives names x y r
     unfolding build_answer index_after
-    answer_refused r n told =
-        let wrong : (list_answer names).refusal ≡ 0 → ⊥ = λ z. omega (arith, some_text r, ap (λ (a : Listing). a.refusal) told) in
-        record { answer = when_no _ _ _ _ room told; words = when_no _ _ _ _ room (when_no _ _ _ _ (ne_eqb _ _ wrong) refl) }
+    answer_refused wrong kept =
+        record {
+          answer = when_no _ _ _ _ room told;
+          words = when_no _ _ _ _ room (when_no _ _ _ _ (ne_eqb _ _ (λ z. wrong (ap (λ (a : Listing). a.refusal) told ∙ z))) kept);
+        }
+
+    pub answer_built : r.refusal ≡ 0 → y ≡ built names x → BuildGives names x y r
+    unfolding build_answer index_after
+    answer_built right made =
+        record {
+          answer = when_no _ _ _ _ room told;
+          words = when_no _ _ _ _ room (when_yes _ _ _ _ (eq-eqb _ _ (sym (ap (λ (a : Listing). a.refusal) told) ∙ right)) made);
+        }
+
+  -- the same of the results of the code
+  module _ (enough : 196602 ≤ length x) where
+    pub refusal_told : (r : TextRefusal) (n : ℕ) → refused (text_number r) n ≡ list_answer names → BuildGives names x x (refused (text_number r) n)
+    refusal_told r n told = answer_refused x (refused (text_number r) n) enough told (λ z. omega (arith, some_text r)) refl
 
     -- the same as `?` passes it on
     pub answer_passed :
         {A : Type 0} (r : Result A ListFault) (f : ListFault) → IsErrAnd r (λ g. g ≡ f) → refused (text_number f.refusal) f.line ≡ list_answer names →
         BuildGives names x x (listing r)
     answer_passed (Ok a) f h told = absurd h
-    answer_passed (Err g) f h told = answer_refused g.refusal g.line (ap (λ (e : ListFault). refused (text_number e.refusal) e.line) h ∙ told)
+    answer_passed (Err g) f h told = refusal_told g.refusal g.line (ap (λ (e : ListFault). refused (text_number e.refusal) e.line) h ∙ told)
 
-    pub answer_built : (y : List ℕ) → fine ≡ list_answer names → y ≡ built names x → BuildGives names x y fine
-    unfolding build_answer index_after
-    answer_built y told made =
-        record {
-          answer = when_no _ _ _ _ room told;
-          words = when_no _ _ _ _ room (when_yes _ _ _ _ (eq-eqb _ _ (sym (ap (λ (a : Listing). a.refusal) told))) made);
-        }
+    pub none_told : (y : List ℕ) → fine ≡ list_answer names → y ≡ built names x → BuildGives names x y fine
+    none_told y told made = answer_built y fine enough told refl made
 
     pub answer_ready : fine ≡ list_answer names → Ready names x
     answer_ready told = record { taken = sym told; room = omega (arith, index_words_is) }

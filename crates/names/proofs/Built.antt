@@ -5,18 +5,23 @@
 --   build_length      there are as many words as before;  build_past: those behind the last place are as they were
 --   scant_exactly     45 comes exactly if there are fewer words than an index has;  list_refused: else the answer is that to the list
 --   build_one         there is one answer, and one index
+--   scant_told, build_listed_one, both of the record that an answer stands for
 --
 -- Assumes nothing.
-use Rattle.std.specs.Prelude.{ℕ, ◌+◌, ◌*◌, ◌≤◌, ◌<◌, ◌↔◌, ◌⊎◌, ◌≡◌, refl, Bool, true, false, List, eqb, ltb, drop}
+use Rattle.std.specs.Prelude.{ℕ, ◌+◌, ◌*◌, ◌≤◌, ◌<◌, ◌↔◌, ◌⊎◌, ◌≡◌, refl, Bool, true, false, List, eqb, ltb, drop, Result, Err}
 use Rattle.std.proofs.Common.{arith, inl, inr, sym, ◌∙◌, eq-eqb, ne_eqb, eqb-true, lt-ltb, le-ltb, ltb-true, ltb-false}
 use Rattle.std.proofs.Math.Path.{ap}
 use Rattle.std.proofs.Math.ListN.{length}
 use Rattle.std.proofs.lemmas.Bool.{eqb-false}
 use Rattle.choice.specs.When.{when_true, when_false}
+use Rattle.limits.specs.declared.TextRefusal.TheVariants.{Scant}
 use Rattle.xml.specs.Refused.{scant, many_names, long_listed, not_name}
 use Rattle.listed.specs.Lines.{lines_of}
 use Rattle.listed.specs.Listed.{Listing, refused, list_answer}
 use Rattle.listed.specs.Words.Laws.{no_refusal, one_of_these}
+use Rattle.listed.specs.declared.ListFault.{ListFault}
+use Rattle.listed.specs.Answer.{listing}
+use Rattle.listed.proofs.Answer.{listing_one}
 use Rattle.spelling.specs.Bucket.{buckets}
 use Rattle.chains.specs.Index.{index_words, built, Ready}
 use Rattle.chains.proofs.Index.Parts.{partly_length, partly_past}
@@ -96,8 +101,8 @@ module _ (names x y : List ℕ) (r : Listing) (gives : BuildGives names x y r) w
       go true e = made_length (eqb-true _ _ e)
       go false e = ap length (build_keeps (eqb-false _ _ e))
 
-  pub scant_exactly : (r ≡ refused scant 0) ↔ (length x < index_words)
-  scant_exactly = (
+  pub scant_told : (r ≡ refused scant 0) ↔ (length x < index_words)
+  scant_told = (
     λ e. by_room x (λ short. short) (λ enough. absurd (other (one_of_these names scant 0 (omega arith) (sym (list_refused enough) ∙ e)))),
     scant_answer,
   )
@@ -107,6 +112,20 @@ module _ (names x y : List ℕ) (r : Listing) (gives : BuildGives names x y r) w
       other (inr (inl z)) = omega arith
       other (inr (inr z)) = omega arith
 
-pub build_one :
+pub build_listed_one :
     (names x y z : List ℕ) (r q : Listing) → BuildGives names x y r → BuildGives names x z q → (r ≡ q) × (y ≡ z)
-build_one names x y z r q g h = (g.answer ∙ sym h.answer, g.words ∙ sym h.words)
+build_listed_one names x y z r q g h = (g.answer ∙ sym h.answer, g.words ∙ sym h.words)
+
+-- the same of the results of the code
+pub scant_exactly :
+    (names x y : List ℕ) (r : Result (Unit {0}) ListFault) → BuildGives names x y (listing r) →
+    (r ≡ Err (record { refusal = Scant; line = 0 })) ↔ (length x < index_words)
+scant_exactly names x y r g =
+    let told = scant_told names x y (listing r) g in
+    (λ e. told.0 (ap listing e), λ short. listing_one r (Err (record { refusal = Scant; line = 0 })) (told.1 short))
+
+pub build_one :
+    (names x y z : List ℕ) (r q : Result (Unit {0}) ListFault) → BuildGives names x y (listing r) → BuildGives names x z (listing q) → (r ≡ q) × (y ≡ z)
+build_one names x y z r q g h =
+    let one = build_listed_one names x y z (listing r) (listing q) g h in
+    (listing_one r q one.0, one.1)

@@ -44,7 +44,7 @@ fn answer_events(
         return 0;
     }
     let finish = state.session.finish();
-    closing::last_line(finish, state.taken, state.refusal, text)
+    closing::line_of_end(finish, state.taken, state.refusal, text)
 }
 
 // "The query is judged first"
@@ -70,7 +70,7 @@ fn answer_files(rt: &HostRuntime)
     let mut text = [0u8; 90112];
     let n = system::read_file(rt, b"query.rec", &mut query);
     let length = answer(rt, &query[..n], &mut text);
-    system::write(rt.stdout(), &text[..length]);
+    block::write_text(rt.stdout(), &text, length);
 }
 
 fn main(rt: HostRuntime) {

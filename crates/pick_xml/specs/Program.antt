@@ -33,7 +33,7 @@ use Rattle.session.specs.declared.Session.{Session}
 use Rattle.session.specs.Event.{finish}
 use Rattle.lines.specs.Text.{lines_of, refused_at_line, refused_for_line, refused_line}
 use Rattle.system.specs.Marks.{Delivered, Failed}
-use Rattle.closing.specs.Line.{last_line}
+use Rattle.closing.specs.Line.{line_of_end}
 use Rattle.turns.specs.Turns.{BegunFor}
 use Rattle.turns.specs.Owed.{finish_line_of}
 use Rattle.intake.specs.Owed.{Judged, text_verdict, text_records}
@@ -55,8 +55,8 @@ last_line_for none q es v = text_line (finish_line_of q es) v
 unfoldable pub line_of : Stand → List ℕ
 line_of st =
     when (eqb (fault_of st.state.refusal) 0)
-    (text_line (last_line (finish st.state.session) st.state.taken (fault_of st.state.refusal)) (verdict_for st.intake))
-    (last_line (finish st.state.session) st.state.taken (fault_of st.state.refusal))
+    (text_line (line_of_end (finish st.state.session) st.state.taken (fault_of st.state.refusal)) (verdict_for st.intake))
+    (line_of_end (finish st.state.session) st.state.taken (fault_of st.state.refusal))
 
 abbrev pub written_for : Query → Offering → Perhaps Judged → List ℕ
 written_for q w v = lines_of (listed q (document w.events)) ++ last_line_for w.refusal q w.events v

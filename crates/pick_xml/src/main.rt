@@ -28,7 +28,7 @@ fn last_line(stand: Stand, lines: &mut [u8]) -> usize
             return lines::put_refused_at(verdict.refusal.number(), verdict.at, lines);
         }
     }
-    closing::last_line(state.session.finish(), state.taken, state.refusal, lines)
+    closing::line_of_end(state.session.finish(), state.taken, state.refusal, lines)
 }
 
 // "a file that can't be opened counts as empty": every read of it fails. Where standard output takes no more, no last line is put.
@@ -110,7 +110,7 @@ fn answer_files(rt: &HostRuntime)
     let mut lines = [0u8; 90112];
     let n = system::read_file(rt, b"query.rec", &mut query);
     let length = answer(rt, &query[..n], &mut lines);
-    system::write(rt.stdout(), &lines[..length]);
+    block::write_text(rt.stdout(), &lines, length);
 }
 
 fn main(rt: HostRuntime) {

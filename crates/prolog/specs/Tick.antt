@@ -1,9 +1,10 @@
 -- One byte in a mode of the prolog, mode by mode.
 --
---   prolog_tick m M r b      the reader after the byte b
+--   prolog_tick m M r b      the reader after the byte b;  in_mode: by the mode that was found
 --
 -- M are the marks of the bytes. Assumes nothing.
-use Rattle.std.specs.Prelude.{ℕ, List}
+use Rattle.std.specs.Prelude.{ℕ, ◌≡◌, List}
+use Rattle.std.proofs.Common.{sym, ap, ◌∙◌}
 use Rattle.modes.specs.declared.Mode.TheVariants as mode
 use Rattle.modes.specs.declared.Prolog.{Prolog}
 use Rattle.modes.specs.declared.Prolog.TheVariants as prolog
@@ -25,3 +26,7 @@ prolog_tick prolog.PartDouble M r b = quoted_tick r b 34
 prolog_tick prolog.PartSingle M r b = quoted_tick r b 39
 prolog_tick prolog.Told M r b = told_tick M r b
 prolog_tick prolog.Query M r b = query_tick r b
+
+-- what is found in a mode that is known
+pub in_mode : {m k : Prolog} (M : List ℕ) (r : Reader) (b : ℕ) {x : Reader} → m ≡ k → x ≡ prolog_tick k M r b → x ≡ prolog_tick m M r b
+in_mode M r b e h = h ∙ ap (λ z. prolog_tick z M r b) (sym e)

@@ -9,6 +9,7 @@
 --   part_tick, part_equals_tick, part_value_tick, quoted_tick      in a part's name, after it, after its '=', in its value
 --
 -- M are the marks of the bytes. Assumes nothing. NOT here: that these are the machine's steps (crate text_right).
+pub mod Laws
 use Rattle.std.specs.Prelude.{ℕ, ◌+◌, List, eqb, leb, ltb, get_or, codes}
 use Rattle.choice.specs.When.{when}
 use Rattle.limits.specs.declared.TextRefusal.{TextRefusal}

@@ -179,4 +179,16 @@ enough room index out e = go (ltb room room_needed) (ltb index index_words) (ltb
     go false true c e f g h = never (sym h)
     go true b c e f g h = never (sym h)
 
+-- by the mode that was found
+pub in_mode : (p : ℕ) (m : Mode) {k : Mode} {b : Bool} → p ≡ 65_535 → m ≡ k → b ≡ around_only k → b ≡ whole_at p m
+unfolding whole_at
+in_mode p m e f g = g ∙ ap around_only (sym f) ∙ sym (when_true _ _ false (eq-eqb p 65_535 e))
+
+pub finish_early :
+    (r : Reader) {z : Reader} → text_of r.refusal ≡ 0 → whole_at r.place r.mode ≡ false → z ≡ refuse_with r Unended
+    → ◌≡◌ {A = Finished} (record { reader = z; refusal = Some Unended }) (finish_answer r)
+unfolding finish_answer
+finish_early r e f g =
+    ap (λ z. record { reader = z; refusal = Some Unended }) g ∙ sym (when_true _ _ _ (eq-eqb (text_of r.refusal) 0 e) ∙ when_false _ _ _ f)
+
 pub ruleset feeding = (feed_scant, index_is, room_short, index_short, out_short)

@@ -2,14 +2,15 @@
 --
 --   left_over      what is left over has moved to the start
 --   read_so        the state after a read
+--   read_nothing, read_some      a read that gave nothing, and one that gave bytes
 --
 -- What is large is given explicitly. Assumes nothing.
-use Rattle.std.specs.Prelude.{ℕ, ◌+◌, ◌-◌, ◌<◌, ◌≡◌, refl, List, ◌++◌, Option, eqb, length, take, drop}
-use Rattle.std.proofs.Common.{arith, sym, ap, ◌∙◌, eqb-true, length-drop, length-take-le, take_at}
+use Rattle.std.specs.Prelude.{ℕ, ◌+◌, ◌-◌, ◌<◌, ◌≡◌, refl, true, false, List, ◌++◌, Option, None, eqb, length, take, drop}
+use Rattle.std.proofs.Common.{arith, sym, ap, ◌∙◌, eqb-true, eq-eqb, ne_eqb, length-drop, length-take-le, take_at}
 use Rattle.std.proofs.Math.Nat.{sub-zero}
 use Rattle.std.proofs.Math.Seq.{take-add}
 use Rattle.std.specs.List.{copy_within}
-use Rattle.choice.specs.When.{when}
+use Rattle.choice.specs.When.{when, when_yes, when_no, never}
 use Rattle.limits.specs.declared.Refusal.{Refusal}
 use Rattle.limits.specs.Number.{fault_of}
 use Rattle.system.specs.declared.File.{File}
@@ -56,4 +57,40 @@ module _ (file : File) (s : State) (input moved_down input' : List ℕ) (r : ℕ
         ended_so = ap (λ (n : ℕ). eqb n 0) (sym so_many);
         refused_so = e;
         over = λ t. got.over (eqb-true r 0 t) (omega (arith, room, long));
+      }
+
+  pub read_nothing :
+      r ≡ 0 → (x : Option Refusal) → fault_of x ≡ leftover_of left →
+      ReadMore file s input (record { session = s.session; from = 0; end = left; taken = s.taken; refusal = x; ended = true; written = s.written }) input'
+  read_nothing z x e =
+      let all : left - 0 ≡ left + r - 0 = omega arith in
+      record {
+        bytes = bytes;
+        given = got.given;
+        behind = ap (λ (k : ℕ). take k input') all ∙ behind;
+        within = record { forward = omega arith; inside = omega (arith, got.within) };
+        session_same = refl;
+        taken_same = refl;
+        written_same = refl;
+        ended_so = sym (eq-eqb (length bytes) 0 (so_many ∙ z));
+        refused_so = when_yes true (fault_of x) (leftover_of left) 0 refl e;
+        over = λ t. got.over z (omega (arith, room, long));
+      }
+
+  pub read_some :
+      (r ≡ 0 → ⊥) →
+      ReadMore file s input
+      (record { session = s.session; from = 0; end = left + r; taken = s.taken; refusal = None; ended = false; written = s.written }) input'
+  read_some z =
+      record {
+        bytes = bytes;
+        given = got.given;
+        behind = behind;
+        within = record { forward = omega arith; inside = got.within };
+        session_same = refl;
+        taken_same = refl;
+        written_same = refl;
+        ended_so = sym (ne_eqb (length bytes) 0 (λ e. z (sym so_many ∙ e)));
+        refused_so = when_no false 0 (leftover_of left) 0 refl refl;
+        over = λ t. never t;
       }

@@ -2,3 +2,4 @@
 pub mod Laws
 pub mod Read
 pub mod Offered
+pub mod Copied

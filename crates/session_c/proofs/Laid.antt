@@ -1,2 +1,3 @@
 -- What is shown of specs/Laid.
 pub mod Laws
+pub mod Copied

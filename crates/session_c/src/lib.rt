@@ -140,7 +140,7 @@ fn put_moved(taken: usize, refusal: Option<Refusal>, next: Session, room: &mut [
         put_session(next, room);
     } else if let Some(refusal) = refusal {
         let (_, numbers) = room.split_at_mut(plan_bytes::ROOM);
-        stop::mark(numbers.as_mut_array().unwrap(), refusal);
+        stop::mark(numbers.as_mut_array().unwrap(), refusal.number());
     }
 }
 

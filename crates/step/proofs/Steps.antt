@@ -1,3 +1,4 @@
 -- What is shown of specs/Step.
 pub mod Sizes
+pub mod Laws
 pub mod Left

@@ -10,7 +10,7 @@ ghost use Rattle.element.specs.Element.{elements_in};
 ghost use Rattle.node.specs.Node.{queue_in};
 ghost use Rattle.plan_bytes.specs.Kept.{kept_in};
 ghost use Rattle.numbers.specs.Numbers.{numbers_in};
-ghost use Rattle.limits.specs.Number.{number, fault_in};
+ghost use Rattle.limits.specs.Number.{fault_in};
 ghost use Rattle.step.specs.Step.{listed_in, after};
 ghost use Rattle.stop.specs.Stop.{marked_by, guarded};
 
@@ -20,26 +20,18 @@ use node::Nodes;
 use numbers::Numbers;
 use plan_bytes::Kept;
 
-// Whether a session that has given this refusal is stopped.
+// Whether a session that has given the refusal with this number is stopped; 0 is none.
 #[tactic(auto, unfolding(meaning::specs::Refusals::stops))]
-fn stops(refusal: Refusal) -> bool
-    ensures { result ≡ stops (number refusal) }
+fn stops(refusal: u8) -> bool
+    ensures { result ≡ stops refusal }
 {
-    matches!(
-        refusal,
-        Refusal::BadRecord
-            | Refusal::AfterEnd
-            | Refusal::WrongClose
-            | Refusal::TooDeep
-            | Refusal::TooManyNodes
-            | Refusal::TooManyHeld
-    )
+    matches!(refusal, limits::BAD_RECORD..=limits::TOO_MANY_HELD)
 }
 
-// The numbers after a refusal: stopped, if it stops.
+// The numbers after the refusal with this number, or after none (0): stopped, if it stops.
 #[tactic(auto, unfolding(crate::specs::Stop::marked_by, choice::specs::When::when))]
-pub fn mark(numbers: &mut Numbers, refusal: Refusal)
-    ensures { numbers_in numbers.new ≡ marked_by (number refusal) (numbers_in numbers.old) }
+pub fn mark(numbers: &mut Numbers, refusal: u8)
+    ensures { numbers_in numbers.new ≡ marked_by refusal (numbers_in numbers.old) }
 {
     if stops(refusal) {
         numbers::write_stop(numbers, 1);
@@ -68,7 +60,7 @@ pub fn guard(
     }
     let r = step::step(kept, bytes, numbers, elements, nodes, out);
     if let Err(refusal) = r {
-        mark(numbers, refusal);
+        mark(numbers, refusal.number());
     }
     r
 }

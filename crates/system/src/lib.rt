@@ -69,18 +69,32 @@ pub fn read_full(file: &File, input: &mut [u8]) -> usize
     done
 }
 
+// Hands all of the bytes over, or stops at the first call that takes nothing or fails, for a signal too. Answers whether all were taken.
+fn hand_over(to: &impl Print, bytes: &[u8]) -> bool {
+    let mut done: usize = 0;
+    // Kept: a `for` is no plainer, since how far a turn goes is for the system to say.
+    while done < bytes.len() {
+        let taken = to.write_some(&bytes[done..]).unwrap_or(0);
+        if taken == 0 {
+            return false;
+        }
+        done += taken;
+    }
+    true
+}
+
 // Hands bytes to standard output. Answers whether all were taken.
 pub fn write(to: Stdout, bytes: &[u8]) -> bool
     ensures { WriteTold bytes.now result }
 {
-    to.write_all(bytes).is_ok()
+    hand_over(&to, bytes)
 }
 
 // Hands bytes to standard error. Answers whether all were taken.
 pub fn write_error(to: Stderr, bytes: &[u8]) -> bool
     ensures { ErrorTold bytes.now result }
 {
-    to.write_all(bytes).is_ok()
+    hand_over(&to, bytes)
 }
 
 // Closes a file. Nothing more is read of it.

@@ -1,9 +1,12 @@
 -- One byte of text, mode by mode.
 --
 --   tick M r b R      the reader and its room after the byte b;  tick_in: in a mode
+--   in_mode, in_mode_kept       by the mode that was found, where the room may have changed, and where not
 --
 -- M are the marks of the bytes, R the room. Assumes nothing. NOT here: that it is the machine's step (crate text_right).
-use Rattle.std.specs.Prelude.{ℕ, true, false, List}
+use Rattle.std.specs.Prelude.{ℕ, ◌≡◌, true, false, List}
+use Rattle.std.proofs.Common.{sym, ◌∙◌}
+use Rattle.std.proofs.Math.Path.{ap}
 use Rattle.modes.specs.declared.Mode.{Mode}
 use Rattle.modes.specs.declared.Mode.TheVariants as mode
 use Rattle.modes.specs.declared.Reader.{Reader}
@@ -42,3 +45,11 @@ tick_in mode.Ended M r b R = kept (ended_tick M r b) R
 
 unfoldable pub tick : List ℕ → Reader → ℕ → List ℕ → Ticked
 tick M r b R = tick_in r.mode M r b R
+
+module _ (M : List ℕ) (r : Reader) (b : ℕ) (R : List ℕ) where
+  pub in_mode : {k : Mode} {x : Ticked} → r.mode ≡ k → x ≡ tick_in k M r b R → x ≡ tick M r b R
+  unfolding tick
+  in_mode e h = h ∙ ap (λ m. tick_in m M r b R) (sym e)
+
+  pub in_mode_kept : {k : Mode} {x y : Reader} → r.mode ≡ k → x ≡ y → kept y R ≡ tick_in k M r b R → kept x R ≡ tick M r b R
+  in_mode_kept e h f = in_mode e (ap (λ z. kept z R) h ∙ f)

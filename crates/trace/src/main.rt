@@ -1,47 +1,64 @@
 // Offers each event of `events.rec` to a session by itself, also after a refusal, and writes a line for each: how it was answered, how many nodes
-// are held, and which were handed out; then it asks finish twice. `lent.rec`, if it is there, says how much is lent to each call.
+// are held, and which were handed out; then it asks finish twice. `lent.rec`, if it is there, says how much is lent to each call. Each word and each
+// number is a write of its own, and one that fails is passed over: the program goes on to its end, and ends well.
 #![tactic(auto)]
 
 use limits::Refusal;
 use session::{Answer, Begun, Counts, Next, Session, StartFault};
-use std::io;
 use std::io::Stdout;
 use system::File;
 
 // The nodes that an event handed out.
-fn say_nodes(to: Stdout, records: &[u8], count: u32) -> io::Result<()> {
+fn say_nodes(to: Stdout, records: &[u8], count: u32) {
     if 0 < count {
-        print!(to; ", listed")?;
+        system::write(to, b", listed");
     }
     for i in 0..count as usize {
         if 4 * i + 4 <= records.len() {
             let node = lines::node_at(records, i);
-            print!(to; " {node}")?;
+            system::write(to, b" ");
+            let _ = print!(to; "{node}");
         }
     }
-    Ok(())
 }
 
-fn say_step(to: Stdout, number: u64, step: Next, out: &[u8]) -> io::Result<()> {
-    let held = step.session.held;
+fn say_held(to: Stdout, held: u32) {
+    system::write(to, b", held ");
+    let _ = print!(to; "{held}");
+}
+
+fn say_step(to: Stdout, number: u64, step: Next, out: &[u8]) {
+    let _ = print!(to; "{number}");
     match step.answer {
-        Answer::Refused(r) => print!(to; "{number} refused {r}, held {held}")?,
+        Answer::Refused(r) => {
+            system::write(to, b" refused ");
+            let _ = print!(to; "{r}");
+            say_held(to, step.session.held);
+        }
         Answer::Taken(n) => {
-            print!(to; "{number} taken, held {held}")?;
-            say_nodes(to, out, n)?;
+            system::write(to, b" taken");
+            say_held(to, step.session.held);
+            say_nodes(to, out, n);
         }
     }
-    println!(to)
+    system::write(to, b"\n");
 }
 
-fn say_finish(to: Stdout, finish: Result<Counts, Refusal>) -> io::Result<()> {
+fn say_finish(to: Stdout, finish: Result<Counts, Refusal>) {
     match finish {
-        Ok(Counts { opened, handed }) => println!(to; "finish opened {opened} listed {handed}"),
+        Ok(Counts { opened, handed }) => {
+            system::write(to, b"finish opened ");
+            let _ = print!(to; "{opened}");
+            system::write(to, b" listed ");
+            let _ = print!(to; "{handed}");
+        }
         Err(refusal) => {
             let number = refusal.number();
-            println!(to; "finish refused {number}")
+            system::write(to, b"finish refused ");
+            let _ = print!(to; "{number}");
         }
     }
+    system::write(to, b"\n");
 }
 
 // How many bytes are lent to a call.
@@ -81,11 +98,11 @@ fn offer_next(
     elements: &mut [u8],
     nodes: &mut [u8],
     out: &mut [u8],
-) -> io::Result<Option<Session>> {
+) -> Option<Session> {
     let mut record = [0u8; 8];
     let n = system::read_full(file, &mut record);
     if n == 0 {
-        return Ok(None);
+        return None;
     }
     let lending = next_lending(lent);
     let some_elements = lending.elements.min(elements.len());
@@ -98,8 +115,8 @@ fn offer_next(
         &mut out[..some_out],
     );
     let next = step.session;
-    say_step(to, number, step, &*out)?;
-    Ok(Some(next))
+    say_step(to, number, step, &*out);
+    Some(next)
 }
 
 // Nothing says that a file ends. So the loop counts the events up to a number that no file has.
@@ -111,22 +128,22 @@ fn offer_all(
     elements: &mut [u8],
     nodes: &mut [u8],
     out: &mut [u8],
-) -> io::Result<Session> {
+) -> Session {
     let mut last = session;
     for number in 1..u64::MAX {
-        match offer_next(to, file, lent, number, last, elements, nodes, out)? {
+        match offer_next(to, file, lent, number, last, elements, nodes, out) {
             Some(next) => last = next,
             None => break,
         }
     }
-    Ok(last)
+    last
 }
 
 // The line that answers a refused query, as the program writes it.
-fn say_query(to: Stdout, fault: StartFault) -> io::Result<()> {
+fn say_query(to: Stdout, fault: StartFault) {
     let mut text = [0u8; 64];
-    let end = closing::query_line(fault, &mut text);
-    to.write_all(&text[..end])
+    let end = closing::query_line(Err(fault), &mut text);
+    system::write(to, &text[..end]);
 }
 
 // A session for the query, by what is lent at the start.
@@ -137,7 +154,7 @@ fn begin(query: &[u8], lent: &File, elements: &[u8], nodes: &[u8]) -> Begun {
     session::begin(query, &elements[..some_elements], &nodes[..some_nodes])
 }
 
-fn main(rt: HostRuntime) -> io::Result<()> {
+fn main(rt: HostRuntime) {
     let to = rt.stdout();
     let mut query = [0u8; 264];
     // A record more than is needed, so that more can be lent.
@@ -148,7 +165,8 @@ fn main(rt: HostRuntime) -> io::Result<()> {
     let lent = system::open(&rt, b"lent.rec");
     let begun = begin(&query[..n], &lent, &elements, &nodes);
     if let Err(fault) = begun.answer {
-        return say_query(to, fault);
+        say_query(to, fault);
+        return;
     }
     let file = system::open(&rt, b"events.rec");
     let last = offer_all(
@@ -159,8 +177,9 @@ fn main(rt: HostRuntime) -> io::Result<()> {
         &mut elements,
         &mut nodes,
         &mut out,
-    )?;
+    );
+    system::close(file);
     // "it changes nothing and may be asked again"
-    say_finish(to, last.finish())?;
-    say_finish(to, last.finish())
+    say_finish(to, last.finish());
+    say_finish(to, last.finish());
 }

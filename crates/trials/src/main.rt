@@ -1,8 +1,8 @@
-// Runs R1, R2 and R3, and lent room that is too small, through the session's own calls and writes what came.
+// Runs R1, R2 and R3, and lent room that is too small, through the session's own calls and writes what came. Each word and each number is a write of its
+// own, and one that fails is passed over: the program goes on to its end, and ends well.
 #![tactic(auto)]
 
 use session::{Answer, Begun, Session, StartFault};
-use std::io;
 use std::io::Stdout;
 
 const OPENS: u8 = 1;
@@ -28,25 +28,36 @@ struct Run {
 }
 
 // What begin answers: the program's line where it is refused.
-fn say_begun(to: Stdout, answer: Result<(), StartFault>) -> io::Result<()> {
-    let Err(fault) = answer else {
-        return println!(to; "taken");
-    };
+fn say_begun(to: Stdout, answer: Result<(), StartFault>) {
+    if answer.is_ok() {
+        let _ = println!(to; "taken");
+        return;
+    }
     let mut text = [0u8; 64];
-    let end = closing::query_line(fault, &mut text);
-    to.write_all(&text[..end])
+    let end = closing::query_line(answer, &mut text);
+    system::write(to, &text[..end]);
 }
 
-fn say_run(to: Stdout, run: Run) -> io::Result<()> {
+fn say_run(to: Stdout, run: Run) {
     let taken = run.taken;
     let handed = run.handed;
     match run.refusal {
         Some(r) => {
             let event = taken.wrapping_add(1);
-            println!(to; "refused {r} at event {event}, handed out {handed}")
+            let _ = print!(to; "refused ");
+            let _ = print!(to; "{r}");
+            let _ = print!(to; " at event ");
+            let _ = print!(to; "{event}");
         }
-        None => println!(to; "all {taken} events taken, handed out {handed}"),
+        None => {
+            let _ = print!(to; "all ");
+            let _ = print!(to; "{taken}");
+            let _ = print!(to; " events taken");
+        }
     }
+    let _ = print!(to; ", handed out ");
+    let _ = print!(to; "{handed}");
+    let _ = println!(to);
 }
 
 fn start(session: Session) -> Run {
@@ -128,11 +139,11 @@ fn catalogue_query() -> [u8; 24] {
     ]
 }
 
-fn begin_catalogue(to: Stdout, elements: &[u8], nodes: &[u8]) -> io::Result<Session> {
+fn begin_catalogue(to: Stdout, elements: &[u8], nodes: &[u8]) -> Session {
     let begun = session::begin(&catalogue_query(), elements, nodes);
-    print!(to; "query ")?;
-    say_begun(to, begun.answer)?;
-    Ok(begun.session)
+    let _ = print!(to; "query ");
+    say_begun(to, begun.answer);
+    begun.session
 }
 
 // "r with 1,024 empty d then c", for so many d.
@@ -142,11 +153,11 @@ fn catalogue(
     elements: &mut [u8],
     nodes: &mut [u8],
     out: &mut [u8],
-) -> io::Result<Run> {
-    let session = begin_catalogue(to, &*elements, &*nodes)?;
+) -> Run {
+    let session = begin_catalogue(to, &*elements, &*nodes);
     let opened = open_r(start(session), elements, nodes, out);
     let waiting = repeat(opened, count, offer_d, elements, nodes, out);
-    Ok(offer(waiting, OPENS, C, elements, nodes, out))
+    offer(waiting, OPENS, C, elements, nodes, out)
 }
 
 // Whether the first `count` list records are the nodes from `first` on, one after the other.
@@ -160,34 +171,38 @@ fn in_a_row(records: &[u8], first: u64, count: u32) -> bool {
 }
 
 // The nodes that the last event handed out.
-fn say_nodes(to: Stdout, records: &[u8], count: u32) -> io::Result<()> {
-    print!(to; "{count} nodes")?;
+fn say_nodes(to: Stdout, records: &[u8], count: u32) {
+    let _ = print!(to; "{count}");
+    let _ = print!(to; " nodes");
     if 0 < count && 4 <= records.len() {
         let first = lines::node_at(records, 0);
         let last = first.wrapping_add(count as u64 - 1);
         if in_a_row(records, first, count) {
-            print!(to; ", each from {first} to {last}")?;
+            let _ = print!(to; ", each from ");
+            let _ = print!(to; "{first}");
+            let _ = print!(to; " to ");
+            let _ = print!(to; "{last}");
         } else {
-            print!(to; ", not in a row")?;
+            let _ = print!(to; ", not in a row");
         }
     }
-    println!(to)
+    let _ = println!(to);
 }
 
-fn r1(to: Stdout, elements: &mut [u8], nodes: &mut [u8], out: &mut [u8]) -> io::Result<()> {
-    print!(to; "R1 ")?;
-    let run = catalogue(to, limits::HELD, elements, nodes, out)?;
-    print!(to; "R1 ")?;
-    say_run(to, run)?;
-    print!(to; "R1 the opening of c handed out ")?;
-    say_nodes(to, &*out, run.last)
+fn r1(to: Stdout, elements: &mut [u8], nodes: &mut [u8], out: &mut [u8]) {
+    let _ = print!(to; "R1 ");
+    let run = catalogue(to, limits::HELD, elements, nodes, out);
+    let _ = print!(to; "R1 ");
+    say_run(to, run);
+    let _ = print!(to; "R1 the opening of c handed out ");
+    say_nodes(to, &*out, run.last);
 }
 
-fn r2(to: Stdout, elements: &mut [u8], nodes: &mut [u8], out: &mut [u8]) -> io::Result<()> {
-    print!(to; "R2 ")?;
-    let run = catalogue(to, limits::HELD + 1, elements, nodes, out)?;
-    print!(to; "R2 ")?;
-    say_run(to, run)
+fn r2(to: Stdout, elements: &mut [u8], nodes: &mut [u8], out: &mut [u8]) {
+    let _ = print!(to; "R2 ");
+    let run = catalogue(to, limits::HELD + 1, elements, nodes, out);
+    let _ = print!(to; "R2 ");
+    say_run(to, run);
 }
 
 // "/child::r"
@@ -196,11 +211,11 @@ fn begin_r(elements: &[u8], nodes: &[u8]) -> Begun {
 }
 
 // "256 nested opens are taken, the 257th gets 5."
-fn nested(to: Stdout, elements: &mut [u8], nodes: &mut [u8], out: &mut [u8]) -> io::Result<()> {
+fn nested(to: Stdout, elements: &mut [u8], nodes: &mut [u8], out: &mut [u8]) {
     let first = start(begin_r(&*elements, &*nodes).session);
     let run = repeat(first, limits::DEPTH + 1, open_r, elements, nodes, out);
-    print!(to; "R3 nested opens: ")?;
-    say_run(to, run)
+    let _ = print!(to; "R3 nested opens: ");
+    say_run(to, run);
 }
 
 // Byte `at` of a query whose first step is on the main path and whose others are its predicates, each child::*.
@@ -214,44 +229,45 @@ fn step_byte(at: usize) -> u8 {
 }
 
 // "A query of 32 steps is taken, of 33 gets 9."
-fn long_query(to: Stdout, query: &mut [u8], elements: &[u8], nodes: &[u8]) -> io::Result<()> {
+fn long_query(to: Stdout, query: &mut [u8], elements: &[u8], nodes: &[u8]) {
     for (at, byte) in query.iter_mut().enumerate() {
         *byte = step_byte(at);
     }
     let steps = query.len() / 8;
     let begun = session::begin(&*query, elements, nodes);
-    print!(to; "R3 query of {steps} steps: ")?;
-    say_begun(to, begun.answer)
+    let _ = print!(to; "R3 query of ");
+    let _ = print!(to; "{steps}");
+    let _ = print!(to; " steps: ");
+    say_begun(to, begun.answer);
 }
 
-fn queries(to: Stdout, elements: &[u8], nodes: &[u8]) -> io::Result<()> {
+fn queries(to: Stdout, elements: &[u8], nodes: &[u8]) {
     let mut most = [0u8; 256];
     let mut more = [0u8; 264];
-    long_query(to, &mut most, elements, nodes)?;
-    long_query(to, &mut more, elements, nodes)
+    long_query(to, &mut most, elements, nodes);
+    long_query(to, &mut more, elements, nodes);
 }
 
 // "A buffer of 4,099 bytes gets 1."
-fn with_buffer(
-    to: Stdout,
-    elements: &mut [u8],
-    nodes: &mut [u8],
-    out: &mut [u8],
-) -> io::Result<()> {
+fn with_buffer(to: Stdout, elements: &mut [u8], nodes: &mut [u8], out: &mut [u8]) {
     let length = out.len();
     let first = start(begin_r(&*elements, &*nodes).session);
-    print!(to; "R3 buffer of {length} bytes: ")?;
-    say_run(to, open_r(first, elements, nodes, out))
+    let _ = print!(to; "R3 buffer of ");
+    let _ = print!(to; "{length}");
+    let _ = print!(to; " bytes: ");
+    say_run(to, open_r(first, elements, nodes, out));
 }
 
-fn buffers(
-    to: Stdout,
-    elements: &mut [u8],
-    nodes: &mut [u8],
-    out: &mut [u8; limits::OUTPUT],
-) -> io::Result<()> {
-    with_buffer(to, elements, nodes, &mut out[..limits::OUTPUT - 1])?;
-    with_buffer(to, elements, nodes, out)
+fn buffers(to: Stdout, elements: &mut [u8], nodes: &mut [u8], out: &mut [u8; limits::OUTPUT]) {
+    with_buffer(to, elements, nodes, &mut out[..limits::OUTPUT - 1]);
+    with_buffer(to, elements, nodes, out);
+}
+
+fn say_room(to: Stdout, first: usize, second: usize) {
+    let _ = print!(to; "room of ");
+    let _ = print!(to; "{first}");
+    let _ = print!(to; " and ");
+    let _ = print!(to; "{second}");
 }
 
 // "Buffers too small for these limits get refusal 15, at the start and at any event that lends less": begin with this room, and an event for a session
@@ -262,15 +278,17 @@ fn with_room(
     elements: &mut [u8],
     nodes: &mut [u8],
     out: &mut [u8],
-) -> io::Result<Session> {
+) -> Session {
     let first = elements.len();
     let second = nodes.len();
-    print!(to; "room of {first} and {second} bytes: query ")?;
-    say_begun(to, begin_r(&*elements, &*nodes).answer)?;
+    say_room(to, first, second);
+    let _ = print!(to; " bytes: query ");
+    say_begun(to, begin_r(&*elements, &*nodes).answer);
     let run = open_r(start(session), elements, nodes, out);
-    print!(to; "room of {first} and {second} bytes: ")?;
-    say_run(to, run)?;
-    Ok(run.session)
+    say_room(to, first, second);
+    let _ = print!(to; " bytes: ");
+    say_run(to, run);
+    run.session
 }
 
 // Too small by a byte for the open elements and for the waiting nodes, and then enough for the same session: "Refusals 1, 15 and 8 stop nothing".
@@ -279,25 +297,24 @@ fn rooms(
     elements: &mut [u8; limits::ELEMENTS_ROOM],
     nodes: &mut [u8; limits::NODES_ROOM],
     out: &mut [u8],
-) -> io::Result<()> {
+) {
     let session = begin_r(&*elements, &*nodes).session;
     let few = &mut elements[..limits::ELEMENTS_ROOM - 1];
-    let once = with_room(to, session, few, nodes, out)?;
+    let once = with_room(to, session, few, nodes, out);
     let few = &mut nodes[..limits::NODES_ROOM - 1];
-    let twice = with_room(to, once, elements, few, out)?;
-    with_room(to, twice, elements, nodes, out)?;
-    Ok(())
+    let twice = with_room(to, once, elements, few, out);
+    with_room(to, twice, elements, nodes, out);
 }
 
-fn main(rt: HostRuntime) -> io::Result<()> {
+fn main(rt: HostRuntime) {
     let to = rt.stdout();
     let mut elements = [0u8; limits::ELEMENTS_ROOM];
     let mut nodes = [0u8; limits::NODES_ROOM];
     let mut out = [0u8; limits::OUTPUT];
-    r1(to, &mut elements, &mut nodes, &mut out)?;
-    r2(to, &mut elements, &mut nodes, &mut out)?;
-    nested(to, &mut elements, &mut nodes, &mut out)?;
-    queries(to, &elements, &nodes)?;
-    buffers(to, &mut elements, &mut nodes, &mut out)?;
-    rooms(to, &mut elements, &mut nodes, &mut out)
+    r1(to, &mut elements, &mut nodes, &mut out);
+    r2(to, &mut elements, &mut nodes, &mut out);
+    nested(to, &mut elements, &mut nodes, &mut out);
+    queries(to, &elements, &nodes);
+    buffers(to, &mut elements, &mut nodes, &mut out);
+    rooms(to, &mut elements, &mut nodes, &mut out);
 }

@@ -2,6 +2,7 @@
 --
 --   finish_line_of q es       the last line where no event was refused;  last_line_by: by the refusal of one
 --   last_line_owed          the last line by finish's answer, the events taken and the refusal is the one that is owed
+--   query_silent            only an admitted query is answered by no line
 --   not_admitted            a query that begin refuses is not admitted
 --   begin_checked           with enough room begin answers the query
 --   Admitted query session  the query is admitted, and begin has made the session for it
@@ -16,7 +17,7 @@ use Rattle.std.proofs.Math.Bool.{or-true}
 use Rattle.std.proofs.Math.Option.{Option, none, some}
 use Rattle.choice.specs.When.{when, when_false}
 use Rattle.meaning.specs.Limits.{elements_needed, nodes_needed}
-use Rattle.meaning.specs.Refusals.{unfinished, bad_length}
+use Rattle.meaning.specs.Refusals.{short_room, unfinished, bad_length, bad_step}
 use Rattle.meaning.specs.Answer.{going, too_small}
 use Rattle.meaning.proofs.Answer.Laws.{not_small}
 use Rattle.meaning.specs.Stream.{Event, document}
@@ -26,6 +27,7 @@ use Rattle.query.specs.Answer.{admitted, refused, judged, if_wrong, answer_to}
 use Rattle.query.specs.Decode.{decode}
 use Rattle.io.specs.Counts.{IsPrefixLen}
 use Rattle.session.specs.declared.Session.{Session}
+use Rattle.limits.specs.Number.{reason_number}
 use Rattle.limits.specs.declared.Refusal.{Refusal}
 use Rattle.limits.specs.declared.Refusal.TheVariants.{Stopped, Unfinished}
 use Rattle.query.specs.declared.QueryFault.TheVariants.{Length, Step}
@@ -38,8 +40,8 @@ use Rattle.session.specs.Begin.{said, start_answer, BeginGives}
 use Rattle.session.specs.Event.{finish}
 use Rattle.session.specs.Run.{Housed}
 use Rattle.promise.specs.Promise.{Of, begin_answer, ended_is, handed_is}
-use Rattle.lines.specs.Text.{end_line, refused_at_line}
-use Rattle.closing.specs.Line.{query_line, finish_line, last_line}
+use Rattle.lines.specs.Text.{end_line, refusal_text, refused_at_line, refused_for_line, refused_line}
+use Rattle.closing.specs.Line.{query_line, line_of_finish, line_of_end}
 use Rattle.meaning.specs.Document.{finished}
 use Rattle.meaning.specs.Query.{Query}
 use Rattle.turns.specs.Turns.{refusal_of, BegunFor}
@@ -60,15 +62,15 @@ counted k h = record { opened = k; handed = h }
 
 finish_by :
     (x : Bool) (k h n : ℕ) →
-    finish_line (when false (Err Stopped) (when x (Ok (counted k h)) (Err Unfinished))) n ≡ when x (end_line h) (refused_at_line unfinished n)
+    line_of_finish (when false (Err Stopped) (when x (Ok (counted k h)) (Err Unfinished))) n ≡ when x (end_line h) (refused_at_line unfinished n)
 unfolding when
 finish_by true k h n = refl
 finish_by false k h n = refl
 
-finish_owed : {b : List ℕ} {es : List Event} {l : Housed} → Of b (going es) l → finish_line (finish l.session) (length es) ≡ finish_line_of (decode b) es
+finish_owed : {b : List ℕ} {es : List Event} {l : Housed} → Of b (going es) l → line_of_finish (finish l.session) (length es) ≡ finish_line_of (decode b) es
 unfolding finish finish_line_of
 finish_owed {b} {es} {l} o =
-    ap (λ (y : Bool). finish_line (when y (Err Stopped)
+    ap (λ (y : Bool). line_of_finish (when y (Err Stopped)
     (when l.session.ended (Ok (counted l.session.opened l.session.handed)) (Err Unfinished))) (length es)) o.stop
     ∙ finish_by l.session.ended l.session.opened l.session.handed (length es)
     ∙ ap₂ (λ (x : Bool) (h : ℕ). when x (end_line h) (refused_at_line unfinished (length es))) (ended_is o) (handed_is o)
@@ -76,15 +78,29 @@ finish_owed {b} {es} {l} o =
 -- finish is asked only where no event was refused, and then the session is not stopped
 pub last_line_owed :
     {b : List ℕ} {es : List Event} {stop : Bool} {l : Housed} → Of b (record { events = es; stopped = stop }) l → (f : Result Counts Refusal) →
-    f ≡ finish l.session → (taken r : ℕ) → (r ≡ 0 → stop ≡ false) → taken ≡ length es → last_line f taken r ≡ last_line_by (refusal_of r) (decode b) es
+    f ≡ finish l.session → (taken r : ℕ) → (r ≡ 0 → stop ≡ false) → taken ≡ length es → line_of_end f taken r ≡ last_line_by (refusal_of r) (decode b) es
 unfolding last_line_by refusal_of
 last_line_owed {b} {es} {l = l} o f e taken zero on t =
-    ap (λ (n : ℕ). finish_line f n) t
-    ∙ ap (λ (g : Result Counts Refusal). finish_line g (length es)) e
+    ap (λ (n : ℕ). line_of_finish f n) t
+    ∙ ap (λ (g : Result Counts Refusal). line_of_finish g (length es)) e
     ∙ finish_owed (subst (λ (x : Bool). Of b (record { events = es; stopped = x }) l) (on refl) o)
 last_line_owed o f e taken (suc r) on t =
-    ap (λ (x : Bool). cond x (refused_at_line (suc r) (taken + 1)) (finish_line f taken)) (lt-ltb 0 (suc r) (omega arith))
+    ap (λ (x : Bool). cond x (refused_at_line (suc r) (taken + 1)) (line_of_finish f taken)) (lt-ltb 0 (suc r) (omega arith))
     ∙ ap (λ (n : ℕ). refused_at_line (suc r) (n + 1)) t
+
+refused_long : (n : ℕ) → 0 < length (refused_line n)
+unfolding refused_line
+refused_long n = omega arith
+
+refused_for_long : (n k r : ℕ) → 0 < length (refused_for_line n k r)
+unfolding refused_for_line refusal_text
+refused_for_long n k r = omega arith
+
+pub query_silent : (a : Result (Unit {0}) StartFault) → length (query_line a) ≡ 0 → a ≡ Ok tt
+query_silent (Ok t) h = refl
+query_silent (Err started.ShortRoom) h = absurd (omega (arith, refused_long short_room))
+query_silent (Err (started.Query Length)) h = absurd (omega (arith, refused_long bad_length))
+query_silent (Err (started.Query (Step k r))) h = absurd (omega (arith, refused_for_long bad_step k (reason_number r)))
 
 pub not_admitted : (f : StartFault) → said (Err f) ≡ admitted → ⊥
 unfolding said query.said
@@ -106,7 +122,7 @@ pub record Admitted (query : List ℕ) (session : Session) : Type 0 where
 pub record Declined (query text : List ℕ) (n : ℕ) : Type 0 where
   pub fault : StartFault
   pub checked : said (Err fault) ≡ answer_to query
-  pub line : take n text ≡ query_line fault
+  pub line : take n text ≡ query_line (Err fault)
   pub prefix_len : IsPrefixLen n text
 
 pub answered_by : {A B C : Type 0} → (A → B) → A ⊎ C → B ⊎ C

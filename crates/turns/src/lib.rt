@@ -23,7 +23,7 @@ pub fn admit(query: &[u8], elements: &[u8], nodes: &[u8], text: &mut [u8]) -> Re
     let begun = session::begin(query, elements, nodes);
     match begun.answer {
         Ok(()) => Ok(begun.session),
-        Err(fault) => Err(closing::query_line(fault, text)),
+        Err(fault) => Err(closing::query_line(Err(fault), text)),
     }
 }
 

@@ -5,10 +5,14 @@
 --   turned_from M r t w      after the loop went as w says
 --   turning                 what a turn of the code goes by
 --   turned M r t at R       a turn from `at` on in the text t
+--   turn_end, turn_refused, turn_on      at the text's end, at a byte that is refused, and at one that is taken
 --
 -- M are the marks of the bytes, R the room. Assumes nothing.
-use Rattle.std.specs.Prelude.{ℕ, ◌+◌, List, eqb, leb, length, get_or, drop}
-use Rattle.choice.specs.When.{when}
+use Rattle.std.specs.Prelude.{ℕ, ◌+◌, ◌≤◌, ◌<◌, ◌≡◌, List, eqb, leb, length, get_or, drop}
+use Rattle.std.proofs.Math.Path.{sym, ap}
+use Rattle.std.proofs.Common.{◌∙◌, eq-eqb, ne_eqb, le-leb}
+use Rattle.std.proofs.lemmas.Bool.{lt-leb}
+use Rattle.choice.specs.When.{when, when_true, when_false}
 use Rattle.choice.specs.Tests.{tests}
 use Rattle.slots.specs.Copied.{Copied}
 use Rattle.limits.specs.Number.{text_of}
@@ -37,5 +41,33 @@ turned_from M r t w =
 
 unfoldable pub turned : List ℕ → Reader → List ℕ → ℕ → List ℕ → Turned
 turned M r t at R = turned_from M r t (walked M r at (drop at t) R)
+
+module _
+    (M : List ℕ) (r : Reader) (t : List ℕ) (at : ℕ) (R : List ℕ) (w : Copied) (e : w ≡ walked M r at (drop at t) R) {h : Reader} (s : h ≡ here_after r w)
+  where
+    whole : turned_from M r t w ≡ turned M r t at R
+    unfolding turned
+    whole = ap (turned_from M r t) e
+
+    pub turn_end : length t ≤ w.at → record { reader = h; at = w.at; room = w.room } ≡ turned M r t at R
+    unfolding turned_from
+    turn_end l =
+        ap (λ z. record { reader = z; at = w.at; room = w.room }) s ∙ sym (when_true _ _ _ (le-leb (length t) w.at l)) ∙ whole
+
+    module _ (l : w.at < length t) (x : Ticked) (k : x ≡ tick M h (get_or t w.at 0) w.room) where
+      ticks : ticked_at x w.at ≡ turned M r t at R
+      unfolding turned_from
+      ticks =
+          ap (λ z. ticked_at z w.at) (k ∙ ap (λ z. tick M z (get_or t w.at 0) w.room) s)
+          ∙ sym (when_false _ _ _ (lt-leb (length t) w.at l))
+          ∙ whole
+
+      pub turn_refused : (text_of x.reader.refusal ≡ 0 → ⊥) → record { reader = x.reader; at = w.at; room = x.room } ≡ turned M r t at R
+      unfolding ticked_at
+      turn_refused f = ap (λ z. record { reader = x.reader; at = z; room = x.room }) (sym (when_false _ (w.at + 1) _ (ne_eqb _ 0 f))) ∙ ticks
+
+      pub turn_on : text_of x.reader.refusal ≡ 0 → record { reader = x.reader; at = w.at + 1; room = x.room } ≡ turned M r t at R
+      unfolding ticked_at
+      turn_on f = ap (λ z. record { reader = x.reader; at = z; room = x.room }) (sym (when_true _ _ w.at (eq-eqb _ 0 f))) ∙ ticks
 
 pub ruleset turning = (tests, refused_test)

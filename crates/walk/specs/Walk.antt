@@ -2,10 +2,12 @@
 --
 --   innermost_of p             the slot of the innermost open element; the first where none is open
 --   pace_in m r, pace_of r      which loop the mode has
+--   in_mode, at_pace          by the mode, and by the pace, that was found
 --   walked M r at t R         how far the loop goes in the text t that begins at `at`, how many bytes of a name are read then, and the room
 --
 -- M are the marks of the bytes, R the room. Assumes nothing.
-use Rattle.std.specs.Prelude.{ℕ, ◌+◌, ◌-◌, List, eqb}
+use Rattle.std.specs.Prelude.{ℕ, ◌+◌, ◌-◌, ◌≡◌, List, eqb}
+use Rattle.std.proofs.Common.{sym, ap, ◌∙◌}
 use Rattle.choice.specs.When.{when}
 use Rattle.chars.specs.Marks.{span}
 use Rattle.slots.specs.Slots.{attribute_slot}
@@ -58,3 +60,18 @@ walked_by (pace.Skips mark) M r at t R = record { at = at + span M mark t; n = r
 
 unfoldable pub walked : List ℕ → Reader → ℕ → List ℕ → List ℕ → Copied
 walked M r at t R = walked_by (pace_of r) M r at t R
+
+-- what is found in a mode that is known
+pub in_mode : (r : Reader) {k : Mode} {x : Pace} → r.mode ≡ k → x ≡ pace_in k r → x ≡ pace_of r
+unfolding pace_of
+in_mode r e h = h ∙ ap (λ m. pace_in m r) (sym e)
+
+-- what is found at a pace that is known
+pub at_pace :
+    {p k : Pace} (M : List ℕ) (r : Reader) (at : ℕ) (t R : List ℕ) {x : Copied}
+    → p ≡ pace_of r
+    → p ≡ k
+    → x ≡ walked_by k M r at t R
+    → x ≡ walked M r at t R
+unfolding walked
+at_pace M r at t R e f h = h ∙ ap (λ z. walked_by z M r at t R) (sym f ∙ e)

@@ -73,7 +73,7 @@ fn mark_of(mode: Mode) -> u8
 }
 
 // Which loop a mode has: by its kind first, so that compiled code finds a mark in a table. A jump for each mode is slower.
-#[tactic(auto, using(crate::specs::Kinds::by_kind), unfolding(crate::specs::Walk::pace_of))]
+#[tactic(auto, using(crate::specs::Kinds::kind_and_mark), unfolding(crate::specs::Walk::pace_of))]
 fn pace_of(r: Reader) -> Pace
     ensures { result ≡ pace_of r }
 {

@@ -15,7 +15,7 @@ pub fn get(room: &[u8], at: usize) -> u32
 }
 
 // The number at place `at` is `v` from now on.
-#[tactic(auto, using(crate::specs::Words::Laws::one_run, crate::specs::Words::Laws::words_put))]
+#[tactic(auto, using(crate::specs::Words::Laws::one_run, crate::specs::Words::Laws::words_put_run))]
 pub fn put(room: &mut [u8], at: usize, v: u32)
     requires { 4 * at + 4 ≤ length room.old }
     ensures { words room.new ≡ set (words room.old) at v }

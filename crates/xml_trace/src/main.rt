@@ -1,12 +1,12 @@
 // Reads each text of `cases.bin` in blocks and with room for events as its header says, by the list in `names.txt`, and writes its event records and a
-// record that closes them: 255, the refusal or 0, 0, 0 and the byte that is refused in 4 bytes, high byte first, or 0.
+// record that closes them: 255, the refusal or 0, 0, 0 and the byte that is refused in 4 bytes, high byte first, or 0. A write that fails is passed over:
+// the program goes on to its end, and ends well.
 #![tactic(auto)]
 
 ghost use Rattle.std.specs.Prelude.{◌≤◌, length};
 
 use limits::TextRefusal;
 use modes::Reader;
-use std::io;
 use std::io::Stdout;
 use system::File;
 
@@ -28,16 +28,16 @@ fn feed_once(
     room: &mut [u8],
     out: &mut [u8],
     lent: usize,
-) -> io::Result<Trace> {
+) -> Trace {
     let some = lent.min(out.len());
     let fed = reader::feed(trace.reader, text, names, index, room, &mut out[..some]);
     let written = fed.written.min(some);
-    to.write_all(&out[..written])?;
-    Ok(Trace {
+    system::write(to, &out[..written]);
+    Trace {
         reader: fed.reader,
         taken: trace.taken.wrapping_add(fed.taken as u64),
         refusal: fed.refusal,
-    })
+    }
 }
 
 // A block, in as many feeds as the room for events asks for; each takes a byte. Of a refused text nothing more is fed.
@@ -50,18 +50,18 @@ fn feed_block(
     room: &mut [u8],
     out: &mut [u8],
     lent: usize,
-) -> io::Result<Trace> {
+) -> Trace {
     let mut now = trace;
     let mut at: usize = 0;
     for _ in 0..text.len() {
         if now.refusal.is_some() || text.len() <= at {
             break;
         }
-        now = feed_once(to, now, &text[at..], names, index, room, out, lent)?;
+        now = feed_once(to, now, &text[at..], names, index, room, out, lent);
         let taken = now.taken.wrapping_sub(trace.taken) as usize;
         at = taken.min(text.len());
     }
-    Ok(now)
+    now
 }
 
 // What a header says: how many bytes the text has, how many are given at a time, and room for how many bytes of events.
@@ -109,7 +109,7 @@ fn read_case(
     index: &[u32],
     room: &mut [u8],
     out: &mut [u8],
-) -> io::Result<Trace> {
+) -> Trace {
     let mut trace = Trace {
         reader: reader::begin(),
         taken: 0,
@@ -124,19 +124,19 @@ fn read_case(
             break;
         }
         left -= got;
-        trace = feed_block(to, trace, &text[..got], names, index, room, out, case.room)?;
+        trace = feed_block(to, trace, &text[..got], names, index, room, out, case.room);
     }
-    Ok(trace)
+    trace
 }
 
-fn say_closing(to: Stdout, refusal: u8, at: u64) -> io::Result<()> {
+fn say_closing(to: Stdout, refusal: u8, at: u64) {
     let mut record = [255, refusal, 0, 0, 0, 0, 0, 0];
     record[4..].copy_from_slice(&at.to_be_bytes()[4..]);
-    to.write_all(&record)
+    system::write(to, &record);
 }
 
 // What the end of the text came to.
-fn say_end(to: Stdout, trace: Trace) -> io::Result<()> {
+fn say_end(to: Stdout, trace: Trace) {
     let ended = reader::finish(trace.reader).refusal;
     match trace.refusal.or(ended) {
         Some(refusal) => say_closing(to, refusal.number(), trace.taken.wrapping_add(1)),
@@ -145,7 +145,7 @@ fn say_end(to: Stdout, trace: Trace) -> io::Result<()> {
 }
 
 // Nothing says that a file ends. So the loop counts the cases up to a number that no file has.
-fn read_all(to: Stdout, file: &File, names: &[u8], index: &[u32]) -> io::Result<()> {
+fn read_all(to: Stdout, file: &File, names: &[u8], index: &[u32]) {
     let mut text = [0u8; 65536];
     let mut room = [0u8; 18496];
     let mut out = [0u8; 65536];
@@ -153,20 +153,18 @@ fn read_all(to: Stdout, file: &File, names: &[u8], index: &[u32]) -> io::Result<
         let Some(case) = next_case(file) else {
             break;
         };
-        let trace = read_case(to, file, case, &mut text, names, index, &mut room, &mut out)?;
-        say_end(to, trace)?;
+        let trace = read_case(to, file, case, &mut text, names, index, &mut room, &mut out);
+        say_end(to, trace);
     }
-    Ok(())
 }
 
-fn main(rt: HostRuntime) -> io::Result<()> {
+fn main(rt: HostRuntime) {
     let to = rt.stdout();
     let mut names = intake::names_room();
     let mut index = intake::index_room();
     let n = intake::read_names(&rt, &mut names);
     if names::build(&names[..n], &mut index).is_ok() {
         let file = system::open(&rt, b"cases.bin");
-        read_all(to, &file, &names[..n], &index)?;
+        read_all(to, &file, &names[..n], &index);
     }
-    Ok(())
 }

@@ -3,6 +3,7 @@
 --   rise_stop, rise_step, rise_done     nothing new; something new, and m is met with it; no element left
 --   refresh_step, refresh_done          one element more; none left
 --   ready_first, ready_other            what is read at level 0, and at another
+--   sure_first, sure_other, possible_first, possible_other     the same of what is sure and of what is possible
 --   sure_front, possible_front          what is read at a level is read off the elements up to it
 --   push_parts                          from what each call answered, the whole of what the push does
 --
@@ -128,6 +129,24 @@ module _ (P : Plan) (ready at to : ℕ) (E : Elements) where
 -- what is read at a level
 
 module _ (P : Plan) (fs : List Frame) where
+  pub sure_first : (level r : ℕ) → level ≡ 0 → r ≡ P.first → r ≡ sure_at P fs level
+  unfolding sure_at
+  sure_first level r z e = e ∙ ap (λ l. get_or (P.first ∷ map (λ f. f.sure) fs) l 0) (sym z)
+
+  pub possible_first : (level r : ℕ) → level ≡ 0 → r ≡ P.first → r ≡ possible_at P fs level
+  unfolding possible_at
+  possible_first level r z e = e ∙ ap (λ l. get_or (P.first ∷ map (λ f. f.possible) fs) l 0) (sym z)
+
+  pub sure_other : (level r : ℕ) → 0 < level → r ≡ (get_or fs (level - 1) no_frame).sure → r ≡ sure_at P fs level
+  unfolding sure_at
+  sure_other level r h e =
+      e ∙ sym (get_or-map (λ f. f.sure) fs (level - 1) no_frame) ∙ ap (λ l. get_or (P.first ∷ map (λ f. f.sure) fs) l 0) (sym (down level h))
+
+  pub possible_other : (level r : ℕ) → 0 < level → r ≡ (get_or fs (level - 1) no_frame).possible → r ≡ possible_at P fs level
+  unfolding possible_at
+  possible_other level r h e =
+      e ∙ sym (get_or-map (λ f. f.possible) fs (level - 1) no_frame) ∙ ap (λ l. get_or (P.first ∷ map (λ f. f.possible) fs) l 0) (sym (down level h))
+
   module _ (g : ℕ) where
     pub ready_first : (level r : ℕ) → level ≡ 0 → r ≡ P.first → r ≡ ready_at g P fs level
     unfolding ready_at

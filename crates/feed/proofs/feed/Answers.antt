@@ -2,7 +2,7 @@
 use Rattle.std.proofs.Common.{rules, arith, refl, ap, sym, ◌∙◌, ◌*◌, length, length-drop}
 use Rattle.meaning.proofs.Limits.Laws.{output_is}
 use Rattle.limits.specs.Number.Laws.{some_number}
-use Rattle.feed.specs.Fed.Laws.{none_underway, taken_underway, underway_refused, underway_short, underway_done, rest_after, rest_wide}
+use Rattle.feed.specs.Fed.Laws.{none_unrefused, taken_underway, underway_refused, underway_short, unrefused_done, rest_after, rest_wide}
 use Rattle.feed.proofs.feed.Goals as goal
 
 pub loop-taken-init : goal.loop-taken-init
@@ -11,7 +11,7 @@ loop-taken-init c = record {
   finite = search rules;
   size = search rules;
   rest = search rules;
-  underway = rw (c.into_iter-taken-iterator.ensures.into_iter_gives, c.enumerate-taken-items.ensures.count) (none_underway _ _ _ _);
+  underway = rw (c.into_iter-taken-iterator.ensures.into_iter_gives, c.enumerate-taken-items.ensures.count) (none_unrefused _ _ _ _);
 }
 
 pub returns-then-out-from-lt-OUTPUT-clause-feed_gives : goal.returns-then-out-from-lt-OUTPUT-clause-feed_gives
@@ -50,7 +50,7 @@ returns-in-Err-clause-feed_gives c =
 pub returns-clause-feed_gives : goal.returns-clause-feed_gives
 returns-clause-feed_gives c =
     let inv = c.loop-taken.invariant in
-    underway_done _ _ _ _ _ inv.underway _
+    unrefused_done _ _ _ _ _ inv.underway _
     (omega (
       arith,
       ap length inv.rest,

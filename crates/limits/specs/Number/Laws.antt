@@ -3,6 +3,7 @@
 --   some_number, some_reason, some_text        so an answer with the number 0 is no refusal
 --   refusal_at n             the refusal with the number n, none where no refusal has it
 --   number_one, fault_one    two refusals with one number are equal; so are two that may be none
+--   text_at, text_one, text_fault_one          the same of the refusals of text
 --
 -- Assumes nothing.
 use Rattle.std.specs.Prelude.{ℕ, ◌<◌, ◌≡◌, refl, Option, Some, None, cond, eqb}
@@ -17,7 +18,7 @@ use Rattle.limits.specs.declared.TextRefusal.{TextRefusal}
 use Rattle.limits.specs.declared.TextRefusal.TheVariants.{Misplaced, NotChar, Doctype, Instruction, Cdata, CharReference, OtherEntity, LongName}
 use Rattle.limits.specs.declared.TextRefusal.TheVariants.{ManyAttributes, Twice, OtherEnd, Nested, OtherEncoding, ForeignName, Unended, Scant, ReaderStopped}
 use Rattle.limits.specs.declared.TextRefusal.TheVariants.{ManyNames, LongListed, NotName}
-use Rattle.limits.specs.Number.{number, fault_of, reason_number, text_number}
+use Rattle.limits.specs.Number.{number, fault_of, reason_number, text_number, text_of}
 
 pub some_number : (r : Refusal) → 0 < number r
 some_number ShortOutput = omega arith
@@ -94,3 +95,48 @@ fault_back (Some r) = number_back r
 
 pub fault_one : (o p : Option Refusal) → fault_of o ≡ fault_of p → o ≡ p
 fault_one o p e = sym (fault_back o) ∙ ap refusal_at e ∙ fault_back p
+
+-- a refusal of text by its number
+
+unfoldable pub text_at : ℕ → Option TextRefusal
+text_at n =
+    cond (eqb n 30) (Some Misplaced) (cond (eqb n 31) (Some NotChar) (cond (eqb n 32) (Some Doctype) (cond (eqb n 33) (Some Instruction) (
+    cond (eqb n 34) (Some Cdata) (cond (eqb n 35) (Some CharReference) (cond (eqb n 36) (Some OtherEntity) (cond (eqb n 37) (Some LongName) (
+    cond (eqb n 38) (Some ManyAttributes) (cond (eqb n 39) (Some Twice) (cond (eqb n 40) (Some OtherEnd) (cond (eqb n 41) (Some Nested) (
+    cond (eqb n 42) (Some OtherEncoding) (cond (eqb n 43) (Some ForeignName) (cond (eqb n 44) (Some Unended) (cond (eqb n 45) (Some Scant) (
+    cond (eqb n 46) (Some ReaderStopped) (cond (eqb n 47) (Some ManyNames) (cond (eqb n 48) (Some LongListed) (
+    cond (eqb n 49) (Some NotName) None)))))))))))))))))))
+
+text_back : (r : TextRefusal) → text_at (text_number r) ≡ Some r
+unfolding text_at
+text_back Misplaced = refl
+text_back NotChar = refl
+text_back Doctype = refl
+text_back Instruction = refl
+text_back Cdata = refl
+text_back CharReference = refl
+text_back OtherEntity = refl
+text_back LongName = refl
+text_back ManyAttributes = refl
+text_back Twice = refl
+text_back OtherEnd = refl
+text_back Nested = refl
+text_back OtherEncoding = refl
+text_back ForeignName = refl
+text_back Unended = refl
+text_back Scant = refl
+text_back ReaderStopped = refl
+text_back ManyNames = refl
+text_back LongListed = refl
+text_back NotName = refl
+
+pub text_one : (r t : TextRefusal) → text_number r ≡ text_number t → r ≡ t
+text_one r t e = same_Some r t (sym (text_back r) ∙ ap text_at e ∙ text_back t)
+
+text_fault_back : (o : Option TextRefusal) → text_at (text_of o) ≡ o
+unfolding text_at
+text_fault_back None = refl
+text_fault_back (Some r) = text_back r
+
+pub text_fault_one : (o p : Option TextRefusal) → text_of o ≡ text_of p → o ≡ p
+text_fault_one o p e = sym (text_fault_back o) ∙ ap text_at e ∙ text_fault_back p

@@ -3,6 +3,8 @@
 --   put_none      nothing is put
 --   put_one       one byte
 --   put_then      one part, and then another behind it
+--   put_more      one byte more of a word
+--   put_all       the whole word
 --   put_part      a part of the text is replaced by the bytes of a word
 --   put_counts    what is put has so many bytes of the text
 --   put_taken     what is put at the start is what the first bytes of the text then are
@@ -11,8 +13,8 @@
 --   digit_last    a number under 10 is put by its digit
 --
 -- Assumes nothing.
-use Rattle.std.specs.Prelude.{ℕ, suc, ◌+◌, ◌-◌, ◌/◌, ◌%◌, ◌≤◌, ◌<◌, ◌≡◌, refl, List, [], ◌∷◌, ◌++◌, length, take, set}
-use Rattle.std.proofs.Common.{add-zero, arith, sym, ap, ◌∙◌, length-append, append_assoc, drop, take_at, length-take-le}
+use Rattle.std.specs.Prelude.{ℕ, suc, ◌+◌, ◌-◌, ◌/◌, ◌%◌, ◌≤◌, ◌<◌, ◌≡◌, refl, List, [], ◌∷◌, ◌++◌, length, get_or, take, set}
+use Rattle.std.proofs.Common.{add-zero, add-one, arith, sym, ap, ◌∙◌, length-append, append_assoc, drop, take_at, take-suc, take_all, length-take-le}
 use Rattle.std.proofs.lemmas.List.Edits.{sets, sets-eq}
 use Rattle.std.proofs.lemmas.List.{set_comm}
 use borrow.Rule.Slice.PartMut.{put_mid, Post-is}
@@ -46,6 +48,13 @@ put_then {l} {at} {vs} {l'} {e} {ws} p q =
       text = q.text ∙ ap (λ x. sets x e ws) p.text ∙ ap (λ k. sets (sets l at vs) k ws) p.end ∙ sym (sets_append l at vs ws);
       end = omega (arith, p.end, q.end, length-append vs ws);
     }
+
+pub put_more : {l : List ℕ} {at : ℕ} {l' : List ℕ} {e : ℕ} (vs : List ℕ) (i : ℕ) →
+    i < length vs → Put l at (take i vs) l' e → Put l at (take (i + 1) vs) (set l' e (get_or vs i 0)) (e + 1)
+put_more {l} {at} {l'} {e} vs i h p = rw (add-one i, take-suc vs i 0 h) (put_then p (put_one l' e (get_or vs i 0)))
+
+pub put_all : {l : List ℕ} {at : ℕ} {l' : List ℕ} {e : ℕ} (vs : List ℕ) (i : ℕ) → length vs ≤ i → Put l at (take i vs) l' e → Put l at vs l' e
+put_all vs i h p = rw (take_all i vs h) at p
 
 -- what `text[at..at + n].copy_from_slice(vs)` leaves
 pub put_part : (l vs : List ℕ) (at : ℕ) → at + length vs ≤ length l → Put l at vs (put_mid at (at + length vs - at) l vs) (at + length vs)

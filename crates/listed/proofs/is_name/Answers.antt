@@ -10,11 +10,11 @@ use borrow.Author.Tests.{tests}
 use Rattle.xml.specs.Class.{in_class}
 use Rattle.xml.specs.Chars.{name_char}
 use Rattle.listed.specs.Listed.{all_in}
-use Rattle.listed.specs.Listed.Laws.{name_begins, name_empty}
+use Rattle.listed.specs.Listed.Laws.{name_begins, name_none}
 use Rattle.listed.proofs.is_name.Goals as goal
 
 pub returns-in-empty : goal.returns-in-empty
-returns-in-empty c = name_empty c.args.line.now c.in-empty.len_below
+returns-in-empty c = name_none c.args.line.now c.in-empty.len_below
 
 pub returns-then-starts : goal.returns-then-starts
 unfolding all_in

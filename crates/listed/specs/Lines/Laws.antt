@@ -1,6 +1,7 @@
 -- Where the lines of a list stand among its bytes.
 --
 --   line_within       a line ends within the bytes;  line_ends: also one that begins at a byte
+--   line_stops, line_goes_on      at a line feed the line ends, and any other byte is of it;  line_done: and so it does at the end
 --   line_first        a line ends at the first line feed, or at the end of the bytes;  line_found: the same by where that stands, if it does
 --   lines_first       the first line, and the lines behind its line feed;  lines_done: at the end there is none
 --   line_spelled      a line is spelled where it begins;  line_fits: within the bytes
@@ -8,7 +9,7 @@
 --
 -- Assumes nothing.
 use Prim.Native.Nat.{ℕ, zero, suc, ◌+◌, ◌≤◌, ◌<◌}
-use Rattle.std.proofs.Common.{add-one, arith, sym, ◌∙◌, length-drop, drop_of_length-le, drop-cons, drop-drop, length-take-le}
+use Rattle.std.proofs.Common.{add-one, arith, sym, ◌∙◌, length-drop, drop_of_length-le, drop-cons, drop-drop, length-take-le, eq-eqb, ne_eqb}
 use Rattle.std.specs.Prelude.{◌≡◌, refl, Bool, true, false, List, [], ◌∷◌, eqb, length, get_or, take, drop}
 use Rattle.std.specs.List.{position, position_or_len}
 use Rattle.std.specs.Option.{unwrap_or}
@@ -16,7 +17,7 @@ use Rattle.std.proofs.Common.{Option}
 use Rattle.std.proofs.Math.Bool.{cond}
 use Rattle.std.proofs.Math.Path.{ap}
 use Rattle.std.proofs.lemmas.List.Recursion.{is_position_or_len}
-use Rattle.choice.specs.When.{when}
+use Rattle.choice.specs.When.{when, when_true, when_false}
 use Rattle.listed.specs.Lines.{line_feed, lines_of, onto, line_length, line_at, start_of}
 
 pub line_within : (t : List ℕ) → line_length t ≤ length t
@@ -44,6 +45,18 @@ pub line_found : (t : List ℕ) (r : Option ℕ) → r ≡ position (λ b. eqb b
 line_found t r e = grind (arith, line_first t, line_within t)
 
 module _ (t : List ℕ) (i : ℕ) where
+  pub line_stops : i < length t → get_or t i 0 ≡ line_feed → line_length (drop i t) ≡ 0
+  unfolding line_length
+  line_stops l e = ap line_length (drop-cons t i 0 l) ∙ when_true _ _ _ (eq-eqb _ _ e)
+
+  pub line_goes_on : i < length t → (get_or t i 0 ≡ line_feed → ⊥) → line_length (drop i t) ≡ suc (line_length (drop (i + 1) t))
+  unfolding line_length
+  line_goes_on l e = ap line_length (drop-cons t i 0 l) ∙ when_false _ _ _ (ne_eqb _ _ e) ∙ rw (add-one i)
+
+  pub line_done : length t ≤ i → line_length (drop i t) ≡ 0
+  unfolding line_length
+  line_done l = ap line_length (drop_of_length-le t l)
+
   pub lines_done : length t ≤ i → lines_of (drop i t) ≡ []
   unfolding lines_of
   lines_done l = ap lines_of (drop_of_length-le t l)

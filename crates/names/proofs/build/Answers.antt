@@ -1,6 +1,6 @@
 -- `build` goes by the room and by the check of the list. Assumes nothing.
 use native.Mathlib.Omega.{arith}
-use Rattle.names.proofs.Answers.{answer_scant, answer_passed, answer_built}
+use Rattle.names.proofs.Answers.{answer_scant, answer_passed, none_told}
 use Rattle.names.proofs.build.Goals as goal
 
 pub returns-then-index-lt-INDEX : goal.returns-then-index-lt-INDEX
@@ -10,4 +10,4 @@ pub returns-in_err-check : goal.returns-in_err-check
 returns-in_err-check c = answer_passed _ _ (omega arith) _ _ c.from_residual.ensures.1 c.in_err-check.ensures
 
 pub returns : goal.returns
-returns c = answer_built _ _ (omega arith) _ c.in_ok-check.ensures c.fill.ensures
+returns c = none_told _ _ (omega arith) _ c.in_ok-check.ensures c.fill.ensures

@@ -3,21 +3,43 @@
 --   walk_none, walk_over      what is no place ends a chain: 0, or a number over 65,533
 --   walk_here, walk_on        the word fits, or the next place is looked at
 --   walk_end                  no place is left to look at
+--   spelled_long, spelled_past, spelled_whole       another length, past the end of the list, or the bytes decide
 --   number_within             a number is one from 1 to 65,534, whatever the words of the index are
 --
 -- Assumes nothing.
-use Prim.Native.Nat.{ℕ, zero, suc, ◌-◌, ◌≤◌, ◌<◌}
+use Prim.Native.Nat.{ℕ, zero, suc, ◌+◌, ◌-◌, ◌≤◌, ◌<◌}
 use native.Mathlib.Omega.{arith}
-use Rattle.std.specs.Prelude.{◌≡◌, Bool, true, false, ◌&&◌, List, leb, get_or}
-use Rattle.std.proofs.Math.Path.{refl, ap, ap₂}
-use Rattle.std.proofs.Common.{◌∙◌, le-leb, leb-true}
+use Rattle.std.specs.Prelude.{◌≡◌, Bool, true, false, ◌&&◌, List, leb, length, get_or, take, drop}
+use Rattle.std.proofs.Math.Path.{refl, sym, ap, ap₂}
+use Rattle.std.proofs.Common.{◌∙◌, eq-eqb, ne_eqb, le-leb, leb-true}
 use Rattle.std.proofs.lemmas.Bool.{lt-leb}
 use Rattle.choice.specs.Count.{down}
 use Rattle.choice.specs.When.{when, never, when_true, when_false, when_known}
 use Rattle.xml.specs.Bounds.{list_limit, unknown_name}
 use Rattle.xml.proofs.Bounds.Laws.{list_limit_is, unknown_is}
+use Rattle.xml.specs.Grammar.{same_name}
 use Rattle.spelling.specs.Bucket.{bucket_of}
-use Rattle.names.specs.Number.{fits_at, next_of, is_place, walked, number_of}
+use Rattle.names.specs.Number.{spelled_at, fits_at, next_of, is_place, walked, number_of}
+
+module _ (names : List ℕ) (from n : ℕ) (w : List ℕ) where
+  pub spelled_long : (n ≡ length w → ⊥) → spelled_at names from n w ≡ false
+  unfolding spelled_at
+  spelled_long other = ap (λ t. t && (leb (from + n) (length names) && same_name (take n (drop from names)) w)) (ne_eqb n (length w) other)
+
+  pub spelled_past : n ≡ length w → length names < from + n → spelled_at names from n w ≡ false
+  unfolding spelled_at
+  spelled_past long past =
+      ap₂ (λ s t. s && (t && same_name (take n (drop from names)) w)) (eq-eqb n (length w) long) (lt-leb (from + n) (length names) past)
+
+  -- the part of the list from byte `from` to byte `end` is compared
+  pub spelled_whole :
+      (t : Bool) (end : ℕ) → n ≡ length w → end ≡ from + n → end ≤ length names → t ≡ same_name (take (end - from) (drop from names)) w →
+      spelled_at names from n w ≡ t
+  unfolding spelled_at
+  spelled_whole t end long ends within told =
+      let part : n ≡ end - from = omega arith in
+      ap₂ (λ s u. s && (u && same_name (take n (drop from names)) w)) (eq-eqb n (length w) long) (le-leb (from + n) (length names) (omega arith))
+      ∙ ap (λ k. same_name (take k (drop from names)) w) part ∙ sym told
 
 place_yes : (p : ℕ) → 1 ≤ p → p ≤ list_limit → is_place p ≡ true
 unfolding is_place

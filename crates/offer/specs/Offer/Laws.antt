@@ -1,6 +1,7 @@
 -- What an event on room of any length leaves, and that the promise of offer allows one result.
 --
---   offer_parts           an answer other than refusals 1 and 15, by the parts of the room that were lent on
+--   offer_lent            refusals 1 and 15, by the lengths of what is lent
+--   offer_parts           any other answer, by the parts of the room that were lent on
 --   offered_long          on longer room: a step, and the bytes past the needed ones as they were
 --   offered_refused       a refused event leaves all as it was but for the stop
 --   offer_one             two results that the promise allows are equal, and so is all that was lent
@@ -8,10 +9,11 @@
 -- What is large is given explicitly. Assumes nothing.
 use Prim.Native.Nat.{ℕ, ◌≤◌}
 use Rattle.std.proofs.Common.{arith, sym, ◌∙◌, take-append-drop, length-append, take_at, drop_at, le-ltb}
-use Rattle.std.specs.Prelude.{◌≡◌, refl, false, Result, Ok, Err, length, take, drop}
+use Rattle.std.specs.Prelude.{◌≡◌, refl, Bool, true, false, Result, Ok, Err, length, take, drop}
 use Rattle.std.proofs.Math.Path.{ap, ap₂}
 use mathlib.Core.List.{List, ◌++◌}
-use Rattle.choice.specs.When.{when_false, when_no, when_either}
+use Rattle.choice.specs.When.{when, when_false, when_no, when_either}
+use Rattle.lent.specs.Lent.{refuse_room, refuse_lent}
 use Rattle.meaning.specs.Answer.{too_small}
 use Rattle.meaning.proofs.Answer.Laws.{not_small}
 use Rattle.meaning.specs.Limits.{output_needed, elements_needed, nodes_needed}
@@ -29,6 +31,32 @@ use Rattle.feed.specs.Fed.Across.{across}
 use Rattle.feed.specs.Steps.{Seat, seat, came, stopped_at, step_at}
 use Rattle.feed.specs.Steps.Laws.{refused_at_lem}
 use Rattle.offer.specs.Offer.{needed, longer, beside, offered, OfferGives}
+
+-- by the tests of what is lent: 1 and 15 stop nothing
+
+lent_is :
+    (r : ℕ) (s : Seat) (n' : Numbers) (out : List ℕ) (k : ℕ) → stops k ≡ false → r ≡ k → n' ≡ marked_by r s.numbers →
+    came r 0 (seat n' s.elements s.nodes) out ≡ came k 0 s out
+lent_is r s n' out k idle e m =
+    ap₂ (λ (x : ℕ) (y : Numbers). came x 0 (seat y s.elements s.nodes) out) e
+    (m ∙ ap (λ (x : ℕ). marked_by x s.numbers) e ∙ marked_other k s.numbers idle)
+
+lent_cases :
+    (a b : Bool) (r : ℕ) (s : Seat) (n' : Numbers) (out : List ℕ) (c : Came Seat) → r ≡ when a short_output (when b short_room 0) → (r ≡ 0 → ⊥) →
+    n' ≡ marked_by r s.numbers →
+    came r 0 (seat n' s.elements s.nodes) out ≡ when a (came short_output 0 s out) (when b (came short_room 0 s out) c)
+unfolding when
+lent_cases true b r s n' out c e f m = lent_is r s n' out short_output (unfold stops in refl) e m
+lent_cases false true r s n' out c e f m = lent_is r s n' out short_room (unfold stops in refl) e m
+lent_cases false false r s n' out c e f m = absurd (f e)
+
+pub offer_lent :
+    (P : Plan) (s : Seat) (bytes out : List ℕ) (r : Result ℕ Refusal) (k : ℕ) (n' : Numbers) →
+    k ≡ refuse_lent (length out) (length s.elements) (length s.nodes) → (k ≡ 0 → ⊥) → fault_in r ≡ k → listed_in r ≡ 0 →
+    n' ≡ marked_by k s.numbers → OfferGives P s bytes out r (seat n' s.elements s.nodes) out
+unfolding offered refuse_lent refuse_room
+offer_lent P s bytes out r k n' e f g l m =
+    ap₂ (λ (x y : ℕ). came x y (seat n' s.elements s.nodes) out) g l ∙ lent_cases _ _ k s n' out _ e f m
 
 -- by the parts of the room that were lent on: k and l are how long they are
 pub offer_parts :

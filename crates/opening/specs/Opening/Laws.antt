@@ -4,14 +4,15 @@
 --   over_not, over_dead     below the brim, or where the new node is ruled out, no place is wanting
 --   over_told, over_copied  whether a place is wanting, by which nodes go; told on a copy of the open elements
 --   has_place               where none is wanting the new node has one
+--   copy_step, copy_done    one byte more is copied; all are
 --
 -- What is large is given explicitly. Assumes nothing.
 use Prim.Native.Nat.{ℕ, ◌+◌, ◌-◌, ◌≤◌, ◌<◌}
-use Rattle.std.proofs.Common.{arith, ◌∙◌, take-append-drop, length-take-le}
+use Rattle.std.proofs.Common.{add-one, arith, ◌∙◌, take-append-drop, take-suc, take-suc-set, take_all, length-take-le}
 use Rattle.std.proofs.Math.Path.{◌≡◌, refl, sym, ap, ap₂}
 use Rattle.std.proofs.Math.Bool.{Bool, false, not}
-use Rattle.std.specs.Prelude.{true, ◌&&◌}
-use mathlib.Core.List.{List, ◌++◌}
+use Rattle.std.specs.Prelude.{true, ◌&&◌, get_or, set}
+use mathlib.Core.List.{List, [], ◌∷◌, ◌++◌}
 use Rattle.std.proofs.Math.Dec.{eqb, leb, ltb}
 use Rattle.std.proofs.Math.ListN.{length, take, drop}
 use Rattle.std.proofs.Math.Seq.{take_at}
@@ -178,3 +179,17 @@ pub over_copied :
     r ≡ no_place go.all go.joins go.went held → r ≡ over_in P x depth held (elements_in bs) (queue_in ns)
 over_copied P x depth held bs trial ns deep few c go E₁ r e er =
     over_told P x depth held trial ns deep few go E₁ r e er ∙ ap (λ b. over_in P x depth held (elements_in b) (queue_in ns)) c
+
+-- a copy
+
+module _ (xs ys : List ℕ) (same : length ys ≡ length xs) (i : ℕ) where
+  pub copy_step : i < length xs → take i ys ≡ take i xs → take (i + 1) (set ys i (get_or xs i 0)) ≡ take (i + 1) xs
+  copy_step h e =
+      ap (λ k. take k (set ys i (get_or xs i 0))) (add-one i)
+      ∙ take-suc-set ys i (get_or xs i 0) (omega arith)
+      ∙ ap (λ l. l ++ (get_or xs i 0 ∷ [])) e
+      ∙ sym (take-suc xs i 0 h)
+      ∙ ap (λ k. take k xs) (sym (add-one i))
+
+  pub copy_done : length xs ≤ i → take i ys ≡ take i xs → ys ≡ xs
+  copy_done h e = sym (take_all i ys (omega arith)) ∙ e ∙ take_all i xs h

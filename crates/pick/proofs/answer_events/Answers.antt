@@ -16,8 +16,8 @@ work_all-state-requires c =
       output_needed_in_bounds = (omega (arith, output_is), c.requires.in_bounds.1);
     }
 
-pub last_line-requires : goal.last_line-requires
-last_line-requires c = (omega (arith, c.requires.in_bounds.0), omega (arith, c.work_all-state.ensures.few, node_limit_is))
+pub line_of_end-requires : goal.line_of_end-requires
+line_of_end-requires c = (omega (arith, c.requires.in_bounds.0), omega (arith, c.work_all-state.ensures.few, node_limit_is))
 
 pub returns-then-not-state : goal.returns-then-not-state
 returns-then-not-state c =
@@ -26,7 +26,7 @@ returns-then-not-state c =
 pub returns : goal.returns
 returns c =
     let work = c.work_all-state.ensures in
-    let line = c.last_line.ensures in
+    let line = c.line_of_end.ensures in
     let ended = finish_is _ c.finish-finish.result c.finish-finish.ensures in
     let streamed = work.streamed (not-false _ c.if-not-state.false) in
     record {

@@ -3,10 +3,11 @@
 --   last_line_owed        the last line by finish's answer, the events taken and the refusal is the one that is owed
 --   streamed_lined        and it is put for a stream that was worked on whole
 --   refused_lined, admitted_lined      what the query's answer leaves to be written
+--   silent_admitted       only an admitted query is answered by no line
 --   outcome_written       the rest is written
 --
 -- Assumes nothing.
-use Rattle.std.specs.Prelude.{ℕ, ◌<◌, ◌⊎◌, ◌≡◌, refl, Bool, true, false, ltb, length, take, Result, Err}
+use Rattle.std.specs.Prelude.{ℕ, ◌≤◌, ◌<◌, ◌⊎◌, ◌≡◌, refl, Bool, true, false, ltb, length, take, Result, Ok, Err}
 use Rattle.std.proofs.Common.{arith, inl, inr, sym, ◌∙◌, subst, length-append, ltb-true, ltb-false}
 use Rattle.std.proofs.Math.Path.{ap}
 use mathlib.Core.List.{List, [], ◌++◌}
@@ -25,13 +26,14 @@ use Rattle.session.specs.declared.StartFault.{StartFault}
 use Rattle.session.specs.declared.StartFault.TheVariants as started
 use Rattle.session.specs.Begin.{said}
 use Rattle.session.specs.Event.{finish}
+use Rattle.lines.specs.Put.{Put}
 use Rattle.lines.specs.Text.{lines_of}
 use Rattle.system.specs.declared.File.{File}
 use Rattle.system.specs.Marks.{FileOpened, FileClosed, ReadOver, WriteTold, ReadFull, FileGiven, received, nothing_yet, Delivered, delivered, none_yet}
-use Rattle.closing.specs.Line.{query_line, last_line}
+use Rattle.closing.specs.Line.{query_line, line_of_end}
 use Rattle.reads.specs.declared.State.{State}
 use Rattle.turns.specs.Turns.{Streamed}
-use Rattle.turns.specs.Owed.{last_line_owed, not_admitted, Declined, long_refused}
+use Rattle.turns.specs.Owed.{last_line_owed, query_silent, not_admitted, Declined, long_refused}
 use Rattle.pick.specs.Events.{EventsLined}
 use Rattle.pick.specs.Program.{last_line_by, owed_output_by, owed_output, query_name, events_name, Lined, Replied, Outcome}
 
@@ -40,7 +42,7 @@ pub streamed_lined :
     {b : List ℕ} {file : File} {s : State} {E N : List ℕ} → FileOpened events_name file → FileClosed file → Streamed b file s E N →
     (f : Result Counts Refusal) →
     f ≡ finish s.session →
-    (text : List ℕ) (r : ℕ) → take r text ≡ last_line f s.taken (fault_of s.refusal) → EventsLined b text r
+    (text : List ℕ) (r : ℕ) → take r text ≡ line_of_end f s.taken (fault_of s.refusal) → EventsLined b text r
 streamed_lined {b} {file} {s} op cl st f e text r line =
     record {
       bytes = st.bytes;
@@ -54,7 +56,7 @@ streamed_lined {b} {file} {s} op cl st f e text r line =
 
 -- the query's answer
 
-query_owed : (f : StartFault) (qs es : List ℕ) → query_line f ≡ owed_output_by (said (Err f)) qs es
+query_owed : (f : StartFault) (qs es : List ℕ) → query_line (Err f) ≡ owed_output_by (said (Err f)) qs es
 unfolding owed_output_by said query.said
 query_owed started.ShortRoom qs es = refl
 query_owed (started.Query Length) qs es = refl
@@ -70,6 +72,12 @@ refused_lined {query} d =
       delivered = none_yet;
       owed_so = d.line ∙ query_owed d.fault query [] ∙ ap (λ (x : Answer). owed_output_by x query []) d.checked;
     }
+
+-- only an admitted query is answered by no line
+module _ (query : List ℕ) (a : Result (Unit {0}) StartFault) (checked : said a ≡ answer_to query) where
+  module _ (text text' : List ℕ) (r : ℕ) (p : Put text 0 (query_line a) text' r) (none-put : r ≤ 0) where
+    pub silent_admitted : a ≡ Ok tt
+    silent_admitted = query_silent a (omega (arith, p.end))
 
 -- an admitted query: the events' lines
 pub admitted_lined : {query text : List ℕ} {r : ℕ} → answer_to query ≡ admitted → EventsLined query text r → Lined query text r

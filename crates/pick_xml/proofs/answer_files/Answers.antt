@@ -4,4 +4,4 @@ use Rattle.pick_xml.specs.Program.Laws.{outcome_written}
 use Rattle.pick_xml.proofs.answer_files.Goals as goal
 
 pub returns : goal.returns
-returns c = outcome_written _ _ _ _ c.read_file-n.ensures.given (search rules) _ c.write.ensures c.answer-length.ensures.replied
+returns c = outcome_written _ _ _ _ c.read_file-n.ensures.given (search rules) _ c.write_text.ensures c.answer-length.ensures.replied

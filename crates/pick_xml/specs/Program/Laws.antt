@@ -5,10 +5,11 @@
 --   fault_none, fault_some      whether a refusal is none, and its number
 --   list_lined, names_lined      what the list's answer leaves to be written
 --   refused_lined, admitted_lined      what the query's answer leaves to be written
+--   silent_admitted     only an admitted query is answered by no line
 --   outcome_written     the rest is written
 --
 -- Assumes nothing.
-use Rattle.std.specs.Prelude.{ℕ, ◌≤◌, ◌<◌, ◌⊎◌, Bool, true, false, Option as Perhaps, None, Some, is_some, ltb, take, Result, Err}
+use Rattle.std.specs.Prelude.{ℕ, ◌≤◌, ◌<◌, ◌⊎◌, Bool, true, false, Option as Perhaps, None, Some, is_some, ltb, take, Result, Ok, Err}
 use native.Mathlib.Omega.{arith}
 use Rattle.std.proofs.Math.Decide.{ℕ_discrete}
 use Rattle.std.proofs.Math.Logic.{inl, inr}
@@ -42,9 +43,9 @@ use Rattle.lines.specs.Put.{Put}
 use Rattle.lines.specs.Text.{lines_of, refused_at_line}
 use Rattle.system.specs.declared.File.{File}
 use Rattle.system.specs.Marks.{FileOpened, FileClosed, ReadOver, WriteTold, ReadFull, FileGiven, received, nothing_yet, Delivered, delivered, none_yet}
-use Rattle.closing.specs.Line.{query_line, last_line}
+use Rattle.closing.specs.Line.{query_line, line_of_end}
 use Rattle.turns.specs.Turns.{refusal_of}
-use Rattle.turns.specs.Owed.{last_line_by, last_line_owed, not_admitted, Declined, long_refused}
+use Rattle.turns.specs.Owed.{last_line_by, last_line_owed, query_silent, not_admitted, Declined, long_refused}
 use Rattle.intake.specs.Owed.{Judged, text_events, text_verdict, number_in}
 use Rattle.intake.specs.Names.{NamesRead}
 use Rattle.intake.specs.Intake.{longest, verdict_for}
@@ -71,10 +72,10 @@ fault_some (Some r) e z = omega (arith, some_number r)
 module _ (st : Stand) where
   pub line_refused :
       (f : Result Counts Refusal) → f ≡ finish st.state.session → (fault_of st.state.refusal ≡ 0 → ⊥) →
-      last_line f st.state.taken (fault_of st.state.refusal) ≡ line_of st
+      line_of_end f st.state.taken (fault_of st.state.refusal) ≡ line_of st
   unfolding line_of
   line_refused f e z =
-      ap (λ (g : Result Counts Refusal). last_line g st.state.taken (fault_of st.state.refusal)) e
+      ap (λ (g : Result Counts Refusal). line_of_end g st.state.taken (fault_of st.state.refusal)) e
       ∙ sym (when_false _ _ _ (ne_eqb (fault_of st.state.refusal) 0 z))
 
   module _ (z : fault_of st.state.refusal ≡ 0) where
@@ -82,23 +83,23 @@ module _ (st : Stand) where
         (v : Judged) → Some v ≡ verdict_for st.intake → refused_at_line v.refusal v.at ≡ line_of st
     unfolding line_of
     line_text v e =
-        ap (text_line (last_line (finish st.state.session) st.state.taken (fault_of st.state.refusal))) e
+        ap (text_line (line_of_end (finish st.state.session) st.state.taken (fault_of st.state.refusal))) e
         ∙ sym (when_true _ _ _ (eq-eqb (fault_of st.state.refusal) 0 z))
 
     pub line_finish :
         (f : Result Counts Refusal) → f ≡ finish st.state.session → None ≡ verdict_for st.intake →
-        last_line f st.state.taken (fault_of st.state.refusal) ≡ line_of st
+        line_of_end f st.state.taken (fault_of st.state.refusal) ≡ line_of st
     unfolding line_of
     line_finish f h e =
-        ap (λ (g : Result Counts Refusal). last_line g st.state.taken (fault_of st.state.refusal)) h
-        ∙ ap (text_line (last_line (finish st.state.session) st.state.taken (fault_of st.state.refusal))) e
+        ap (λ (g : Result Counts Refusal). line_of_end g st.state.taken (fault_of st.state.refusal)) h
+        ∙ ap (text_line (line_of_end (finish st.state.session) st.state.taken (fault_of st.state.refusal))) e
         ∙ sym (when_true _ _ _ (eq-eqb (fault_of st.state.refusal) 0 z))
 
 module _ {b N X : List ℕ} {file : File} {st : Stand} {E M : List ℕ} (p : Picked b N X file st E M) where
   abbrev w : Offering
   w = offered_text b (number_of N X) p.text
 
-  finish_line_lem : last_line (finish st.state.session) st.state.taken (fault_of st.state.refusal) ≡ last_line_by w.refusal (decode b) w.events
+  finish_line_lem : line_of_end (finish st.state.session) st.state.taken (fault_of st.state.refusal) ≡ last_line_by w.refusal (decode b) w.events
   finish_line_lem =
       last_line_owed p.reached (finish st.state.session) refl st.state.taken (fault_of st.state.refusal) p.going_on p.counted
       ∙ ap (λ (x : Option ℕ). last_line_by x (decode b) w.events) p.refusal_so
@@ -235,7 +236,7 @@ module _ (names x y : List ℕ) (a : Listing) (gives : BuildGives names x y a) (
 
 -- the query's answer
 
-query_owed : (f : StartFault) (qs names text : List ℕ) → query_line f ≡ owed_output_by (said (Err f)) qs names text
+query_owed : (f : StartFault) (qs names text : List ℕ) → query_line (Err f) ≡ owed_output_by (said (Err f)) qs names text
 unfolding owed_output_by said query.said
 query_owed started.ShortRoom qs names text = refl
 query_owed (started.Query Length) qs names text = refl
@@ -253,6 +254,12 @@ refused_lined {query} d =
       delivered = none_yet;
       owed_so = d.line ∙ query_owed d.fault query [] [] ∙ ap (λ (x : Answer). owed_output_by x query [] []) d.checked;
     }
+
+-- only an admitted query is answered by no line
+module _ (query : List ℕ) (a : Result (Unit {0}) StartFault) (checked : said a ≡ answer_to query) where
+  module _ (text text' : List ℕ) (r : ℕ) (p : Put text 0 (query_line a) text' r) (none-put : r ≤ 0) where
+    pub silent_admitted : a ≡ Ok tt
+    silent_admitted = query_silent a (omega (arith, p.end))
 
 -- an admitted query: what the list of names and the text leave
 pub admitted_lined : {query lines : List ℕ} {r : ℕ} → answer_to query ≡ admitted → NamesLined query lines r → Lined query lines r

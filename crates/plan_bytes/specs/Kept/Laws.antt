@@ -3,6 +3,7 @@
 --   steps_is, size_is, stars_is, hung_is      a number read is a set of steps, how many steps there are, the stars, or what hangs on a step
 --   all_some, all_is, all_small      the set of all steps, as a shifted 1 less 1
 --   kept_size           at most 32 steps are kept;  asked_size: so many for the name tests;  room_is: how many bytes they take
+--   Written, written_none, written_as, written_all, six_written      numbers written one after the other
 --   calls_none, calls_put, calls_all      numbers that calls answer, written one after the other: before the first, one more, after the last
 --   rows_of_calls            where the calls answer the numbers of a function
 --   lay_parts, pack_is  all writes of `lay` and `pack`
@@ -82,6 +83,35 @@ rows_snoc (suc n) g = ap (λ l. g zero ∷ l) (rows_snoc n (λ i. g (suc i)))
 sets_snoc : (l : List ℕ) (i : ℕ) (vs : List ℕ) (v : ℕ) → sets l i (vs ++ (v ∷ [])) ≡ set (sets l i vs) (i + length vs) v
 sets_snoc l i [] v = ap (λ j. set l j v) (omega arith)
 sets_snoc l i (x ∷ vs) v = sets_snoc (set l i x) (suc i) vs v ∙ ap (λ j. set (sets (set l i x) (suc i) vs) j v) (omega arith)
+
+unfoldable pub Written : ℕ → (ℕ → ℕ) → ℕ → List ℕ → List ℕ → Type 0
+Written at g i ws₀ ws = ws ≡ sets ws₀ at (rows i g)
+
+module _ (at : ℕ) (g : ℕ → ℕ) where
+  pub written_none : (ws : List ℕ) → Written at g 0 ws ws
+  unfolding rows Written
+  written_none ws = refl
+
+  pub written_as : (i v : ℕ) (ws₀ ws ws' : List ℕ) → Written at g i ws₀ ws → v ≡ g i → ws' ≡ set ws (at + i) v → Written at g (i + 1) ws₀ ws'
+  unfolding Written
+  written_as i v ws₀ ws ws' e is n =
+      n
+      ∙ ap (set ws (at + i)) is
+      ∙ ap₂ (λ l j. set l (at + j) (g i)) e (sym (rows_length i g))
+      ∙ sym (sets_snoc ws₀ at (rows i g) (g i))
+      ∙ ap (sets ws₀ at) (sym (rows_snoc i g) ∙ ap (λ k. rows k g) (omega arith))
+
+  pub written_all : (n i : ℕ) (ws₀ ws : List ℕ) → i ≤ n → n ≤ i → Written at g i ws₀ ws → ws ≡ sets ws₀ at (rows n g)
+  unfolding Written
+  written_all n i ws₀ ws h l e = e ∙ ap (λ k. sets ws₀ at (rows k g)) (omega arith)
+
+pub six_written :
+    (ws ws₁ ws₂ ws₃ ws₄ ws₅ ws₆ : List ℕ) (a b c d e f : ℕ) → ws₁ ≡ set ws 0 a → ws₂ ≡ set ws₁ 1 b → ws₃ ≡ set ws₂ 2 c → ws₄ ≡ set ws₃ 3 d →
+    ws₅ ≡ set ws₄ 4 e → ws₆ ≡ set ws₅ 5 f → ws₆ ≡ sets ws 0 (a ∷ b ∷ c ∷ d ∷ e ∷ f ∷ [])
+six_written ws ws₁ ws₂ ws₃ ws₄ ws₅ ws₆ a b c d e f e₁ e₂ e₃ e₄ e₅ e₆ =
+    e₆
+    ∙ ap (λ l. set l 5 f)
+    (e₅ ∙ ap (λ l. set l 4 e) (e₄ ∙ ap (λ l. set l 3 d) (e₃ ∙ ap (λ l. set l 2 c) (e₂ ∙ ap (λ l. set l 1 b) e₁))))
 
 -- the rows that calls answer
 

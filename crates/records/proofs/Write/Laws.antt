@@ -1,5 +1,6 @@
 -- What is written as list records is read again.
 --
+--   sets_four           four bytes written one after the other, as one run
 --   one_run             bytes that were copied to a place are written there
 --   length_records      a list record has 4 bytes;  records_append: records end to end
 --   length_nodes        k list records are k nodes
@@ -11,14 +12,19 @@
 -- Assumes nothing.
 use borrow.Rule.Slice.PartMut.{put_mid, Post-is}
 use Prim.Native.Nat.{ℕ, zero, suc, ◌+◌, ◌-◌, ◌*◌, ◌/◌, ◌%◌, ◌≤◌, ◌<◌}
-use Rattle.std.proofs.Common.{zero-add, add-zero, suc-add, arith, ◌∙◌, append-nil, append_assoc, take_at, drop_at}
+use Rattle.std.proofs.Common.{zero-add, add-zero, suc-add, add-one, arith, ◌∙◌, append-nil, append_assoc, take_at, drop_at}
 use Rattle.std.proofs.Math.Nat.{div-div-eq-div-mul}
-use Rattle.std.specs.Prelude.{◌≡◌, List, [], ◌∷◌, ◌++◌, get_or, take}
+use Rattle.std.specs.Prelude.{◌≡◌, List, [], ◌∷◌, ◌++◌, get_or, set, take}
 use Rattle.std.proofs.Math.Path.{refl, sym, ap, ap₂}
 use Rattle.std.proofs.Math.ListN.{length, drop, length-append, length-drop}
 use Rattle.std.proofs.lemmas.List.Edits.{sets}
 use Rattle.std.proofs.Math.Seq.{sets-eq, drop-drop}
+use Rattle.choice.specs.Count.{add_two, add_three}
 use Rattle.records.specs.Write.{node_bytes, records_of, node_at, nodes_in, buffer}
+
+pub sets_four :
+    (l : List ℕ) (at a b c d : ℕ) → set (set (set (set l at a) (at + 1) b) (at + 2) c) (at + 3) d ≡ sets l at (a ∷ b ∷ c ∷ d ∷ [])
+sets_four l at a b c d = rw (add-one at, add_two at, add_three at)
 
 pub one_run :
     (l vs ys : List ℕ) (at : ℕ) → ys ≡ vs → at + length vs ≤ length l → put_mid at (at + length vs - at) l ys ≡ sets l at vs

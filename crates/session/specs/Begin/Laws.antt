@@ -3,23 +3,27 @@
 --   session_beside     the session beside an answer
 --   begin_parts        the answer, and the session beside it
 --   room_told          the room is refused exactly where it is too small;  query_told: a query is refused as the check refuses it
+--   begin_short        the lent room is too small
+--   begin_admitted, begin_long, begin_broken      for each case of the check's answer: the answer and the session beside it
 --   begin_one          two results that the promise of `begin` allows are equal
 --
 -- Assumes nothing.
-use Rattle.std.specs.Prelude.{ℕ, ◌≡◌, refl, Bool, true, false, List, [], Result, Ok, Err, is_ok, is_err, MatchResult, IsErrAnd}
+use Rattle.std.specs.Prelude.{ℕ, ◌≡◌, refl, Bool, true, false, List, [], length, Result, Ok, Err, is_ok, is_err, MatchResult, IsErrAnd}
 use Rattle.std.proofs.Common.{arith, ap₂, ◌∙◌}
 use Rattle.std.proofs.Math.Path.{sym, ap}
-use Rattle.choice.specs.When.{when, never}
+use Rattle.choice.specs.When.{when, when_true, when_false, never}
 use Rattle.meaning.specs.Refusals.{short_room}
 use Rattle.meaning.specs.Answer.{too_small}
 use Rattle.limits.specs.declared.Refusal.{Refusal}
+use Rattle.limits.specs.declared.Reason.{Reason}
 use Rattle.limits.specs.Number as limits
 use Rattle.limits.specs.Number.Laws.{some_number}
 use Rattle.lent.specs.Lent.{refuse_room}
+use Rattle.plan.specs.declared.Plan.{Plan}
 use Rattle.plan.specs.Planned.{plan_of}
 use Rattle.query.specs.declared.QueryFault.{QueryFault}
 use Rattle.query.specs.declared.QueryFault.TheVariants.{Length, Step}
-use Rattle.query.specs.Answer.{admitted, refused}
+use Rattle.query.specs.Answer.{admitted, refused, answer_to}
 use Rattle.query.specs.Answer as query
 use Rattle.query.proofs.Answer.Laws as checked
 use Rattle.session.specs.declared.Begun as given
@@ -70,6 +74,44 @@ unfolding said query.said
 query_told (Ok t) m h = ap said h
 query_told (Err f) (Ok t) h = absurd h
 query_told (Err f) (Err g) h = ap (λ (x : StartFault). said (Err x)) h
+
+-- for each way to begin
+
+module _ (q E N : List ℕ) (a : Result (Unit {0}) StartFault) (s : Session) where
+  beside : said a ≡ start_answer q E N → s ≡ session_for (said a) q → BeginGives q E N (record { answer = a; session = s })
+  beside = begin_parts q E N a s
+
+  pub begin_short :
+      (plan : Plan) → a ≡ Err ShortRoom → too_small (length E) (length N) ≡ true → plan ≡ plan_of [] → s ≡ fresh plan →
+      BeginGives q E N (record { answer = a; session = s })
+  unfolding said start_answer session_for
+  begin_short plan ea h ep es =
+      beside (ap said ea ∙ sym (when_true _ _ _ h)) (es ∙ ap fresh ep ∙ ap (λ x. session_for (said x) q) (sym ea))
+
+  module _
+      (enough : too_small (length E) (length N) ≡ false) (plan : Plan) (es : s ≡ fresh plan) (c : Result (Unit {0}) QueryFault)
+      (checked : query.said c ≡ answer_to q)
+    where
+      asked : query.said c ≡ start_answer q E N
+      unfolding start_answer
+      asked = checked ∙ sym (when_false _ _ _ enough)
+
+      pub begin_admitted : c ≡ Ok tt → a ≡ Ok tt → plan ≡ plan_of q → BeginGives q E N (record { answer = a; session = s })
+      unfolding said query.said session_for
+      begin_admitted ec ea ep =
+          beside (ap said ea ∙ ap query.said (sym ec) ∙ asked) (es ∙ ap fresh ep ∙ ap (λ x. session_for (said x) q) (sym ea))
+
+      pub begin_long : c ≡ Err Length → a ≡ Err (Query Length) → plan ≡ plan_of [] → BeginGives q E N (record { answer = a; session = s })
+      unfolding said query.said session_for
+      begin_long ec ea ep =
+          beside (ap said ea ∙ ap query.said (sym ec) ∙ asked) (es ∙ ap fresh ep ∙ ap (λ x. session_for (said x) q) (sym ea))
+
+      pub begin_broken :
+          (k : ℕ) (r : Reason) → c ≡ Err (Step k r) → a ≡ Err (Query (Step k r)) → plan ≡ plan_of [] →
+          BeginGives q E N (record { answer = a; session = s })
+      unfolding said query.said session_for
+      begin_broken k r ec ea ep =
+          beside (ap said ea ∙ ap query.said (sym ec) ∙ asked) (es ∙ ap fresh ep ∙ ap (λ x. session_for (said x) q) (sym ea))
 
 -- two results that stand for one answer
 

@@ -1,6 +1,7 @@
 -- What the calls of an event give together, and that the promises of event and finish allow one result.
 --
 --   of_parts                           a session by what it keeps of its query and its numbers one by one
+--   with_parts                         the numbers one by one
 --   there, again                       a session with other numbers has these, if what they say by 0 or not 0 is said by 0 or 1; its own leave it as it is
 --   stopped_numbers                    a session with its own numbers after a refusal is the session after it
 --   stopped_other                      a refusal that does not stop leaves the session as it was
@@ -45,6 +46,12 @@ pub of_parts :
     session_of kept (numbers_of depth held opened handed ended stopped) ≡ session_of kept n
 of_parts kept n depth held opened handed ended stopped e₁ e₂ e₃ e₄ e₅ e₆ =
     λ i. session_of kept (numbers_of (e₁ i) (e₂ i) (e₃ i) (e₄ i) (e₅ i) (e₆ i))
+
+pub with_parts :
+    (s : Session) (n : Numbers) (depth held opened handed ended stopped : ℕ) → depth ≡ n.depth → held ≡ n.held → opened ≡ n.opened →
+    handed ≡ n.handed → ended ≡ n.ended → stopped ≡ n.stopped →
+    with_numbers s (numbers_of depth held opened handed ended stopped) ≡ with_numbers s n
+with_parts s n = of_parts s.kept n
 
 -- the numbers back
 

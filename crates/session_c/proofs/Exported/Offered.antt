@@ -1,6 +1,7 @@
 -- That an event on the session's bytes is one on the session in them. The numbers there may say by any value whether the document element has been closed and
 -- whether the session is stopped, a session says it by tests: an event asks no more (crate offer, proofs/Alike).
 --
+--   takes_bytes                     what `offer` gives on the numbers in the bytes
 --   takes_parts                     what `offer` gives on the bytes is what is owed of the session's event
 --
 -- What is large is given explicitly. Assumes nothing.
@@ -116,7 +117,7 @@ module _ (S bytes E N out : List ℕ) (long : length S ≡ session_room) (bytes-
     either true e = taken_took (eqb-true _ _ e)
     either false e = refused_took (eqb-false _ _ e)
 
-    takes_bytes : result (event_number refusal listed) ≡ took S bytes E N out
+    pub takes_bytes : result (event_number refusal listed) ≡ took S bytes E N out
     unfolding event_number
     takes_bytes = either (eqb refusal 0) refl ∙ sym took_is
 

@@ -3,6 +3,8 @@
 --   plan_room_lem, room_is, counts_room_lem      how many bytes it keeps of its query, it takes in all, and two counts take, as numbers
 --   six, six_words       the numbers as a list, and that these are the words of their bytes
 --   numbers_laid         bytes with these numbers are those of the numbers
+--   rest_room            how long the rest of the bytes is, after what is kept of the query
+--   back_all, back_bytes      the session's bytes when the rest is given back with other numbers;  these are bytes
 --   kept_all, rest_all   what is kept of the query, and the rest
 --   last_bytes           the last of some bytes are bytes
 --   read_parts           what is kept and the numbers in the rest are the session in the bytes
@@ -16,11 +18,11 @@
 --   counts_put           two counts in bytes, low byte first
 --
 -- Assumes nothing.
-use Rattle.std.specs.Prelude.{ℕ, zero, suc, ◌+◌, ◌/◌, ◌%◌, ◌<◌, ◌≡◌, refl, Bool, length, drop}
-use Rattle.std.proofs.Common.{arith, subst, ◌∙◌, length-drop, length-take-le, take_at, drop_at, get_or-append-add, get_or-drop}
+use Rattle.std.specs.Prelude.{ℕ, zero, suc, ◌+◌, ◌-◌, ◌/◌, ◌%◌, ◌≤◌, ◌<◌, ◌≡◌, refl, Bool, length, drop}
+use Rattle.std.proofs.Common.{arith, subst, ◌∙◌, length-drop, drop_of_length-le, length-take-le, take_at, drop_at, get_or-append-add, get_or-drop}
 use Rattle.std.proofs.Math.Path.{sym, ap, ap₂}
 use Rattle.std.proofs.Math.Bool.{true, false}
-use mathlib.Core.List.{List, [], ◌∷◌, ◌++◌, append_assoc}
+use mathlib.Core.List.{List, [], ◌∷◌, ◌++◌, append-nil, append_assoc}
 use mir.Val.{bool_byte}
 use Rattle.std.specs.Int.{w64, to_le_bytes}
 use Rattle.std.proofs.Math.ListN.{get_or, take, take-append-drop}
@@ -71,6 +73,26 @@ numbers_laid bs n l h e =
 
 pub last_bytes : (xs bs : List ℕ) → Bytes (xs ++ bs) → Bytes bs
 last_bytes xs bs h i = subst (λ (v : ℕ). v < 256) (get_or-append-add xs bs i 0) (h (length xs + i))
+
+module _ (S : List ℕ) (long : length S ≡ session_room) where
+  pub rest_room : length (take (length S - 288) (drop 288 S)) ≡ numbers_room
+  rest_room =
+      omega
+      (arith, length-take-le (length S - 288) (drop 288 S) (omega (arith, length-drop 288 S)), numbers.room_is, room_is)
+
+  -- the numbers given back in the place of the rest
+  module _ (nums : List ℕ) where
+    pub back_all : take 288 S ++ (nums ++ drop (length S - 288) (drop 288 S)) ≡ take plan_room S ++ nums
+    back_all =
+        let over : length (drop 288 S) ≤ length S - 288 = omega (arith, length-drop 288 S) in
+        ap₂ (λ (k : ℕ) (x : List ℕ). take k S ++ (nums ++ x)) (sym plan_room_lem) (drop_of_length-le (drop 288 S) over)
+        ∙ ap (λ (x : List ℕ). take plan_room S ++ x) (append-nil nums)
+
+    pub back_bytes : Bytes (take 288 S ++ (nums ++ drop (length S - 288) (drop 288 S))) → Bytes nums
+    back_bytes h i =
+        subst (λ (v : ℕ). v < 256)
+        (ap (λ (x : List ℕ). get_or x (length (take plan_room S) + i) 0) back_all ∙ get_or-append-add (take plan_room S) nums i 0)
+        (h (length (take plan_room S) + i))
 
 module _ (S : List ℕ) where
   pub kept_all : take 288 S ≡ take plan_room S

@@ -1,5 +1,5 @@
 -- The stop alone, or the whole session. Assumes nothing.
-use Rattle.std.proofs.Common.{rules, ap, ℕ, List}
+use Rattle.std.proofs.Common.{rules, ap, ap₂, ℕ, List}
 use Rattle.std.specs.Prelude.{Option}
 use borrow.Author.Tests.{eq-eqb, ne_eqb}
 use native.Mathlib.Omega.{arith}
@@ -27,10 +27,11 @@ unwrap-requires c = c.as_mut_array.ensures.variant.1 (omega (arith, room_is, c.s
 pub returns-in-Some : goal.returns-in-Some
 unfolding moved_by
 returns-in-Some c = let split = c.split_at_mut-numbers.ensures in
-    marked_parts c.args.room.now c.requires (search rules) _ c.split_at_mut-numbers.result.0.now c.split_at_mut-numbers.result.1.now c.mark.new.numbers
-    split.front split.back (omega (arith, room_is, numbers.room_is, split.back_len)) (λ i. (c.type_inv.room i).fits)
+    marked_parts c.args.room.now c.requires (search rules) (number c.in-Some.refusal) c.split_at_mut-numbers.result.0.now
+    c.split_at_mut-numbers.result.1.now c.mark.new.numbers split.front split.back (omega (arith, room_is, numbers.room_is, split.back_len))
+    (λ i. (c.type_inv.room i).fits)
     (c.mark.ensures
-    ∙ ap (λ (ns : List ℕ). marked_by (number c.in-Some.refusal) (numbers_in ns)) (search (rules, c.as_mut_array.ensures.cases, c.unwrap.ensures)))
+    ∙ ap₂ (λ (k : ℕ) (ns : List ℕ). marked_by k (numbers_in ns)) (search rules) (search (rules, c.as_mut_array.ensures.cases, c.unwrap.ensures)))
     ∙ sym (when_true _ _ _ (eq-eqb _ _ c.if-taken-ne0.false))
     ∙ ap (λ (o : Option Refusal). moved_by c.args.taken (fault_of o) c.args.next c.args.room.now) (sym c.in-Some.is)
 

@@ -2,12 +2,13 @@
 --
 --   copied_end, copied_other, copied_full, copied_on      at the text's end, at a byte of no name, with as many bytes as a name may have, and at one byte more
 --   agreed_end, agreed_whole, agreed_other, agreed_on     at the text's end, at the name's, at a byte that differs, and at one byte more
+--   name_length_lem, name_bytes_lem      a slot's name by its length, and by its bytes
 --   doubled_begin                all attributes are left
 --   doubled_done, doubled_here, doubled_next              no attribute is left, the attribute looked at has the name, and has it not
 --   copying, agreeing, doubling                           these laws, loop by loop, for a proof that goes by them
 --
 -- Assumes nothing.
-use Rattle.std.specs.Prelude.{ℕ, ◌+◌, ◌-◌, ◌≤◌, ◌<◌, ◌≡◌, true, List, ◌∷◌, length, set, drop}
+use Rattle.std.specs.Prelude.{ℕ, ◌+◌, ◌-◌, ◌≤◌, ◌<◌, ◌≡◌, Bool, true, List, ◌∷◌, length, set, drop}
 use Rattle.std.proofs.Common.{arith, add-one, ◌∙◌, drop_of_length-le, drop-cons, eq-eqb, ne_eqb, le-leb}
 use Rattle.std.proofs.Math.Path.{sym, ap}
 use Rattle.std.proofs.Math.Bool.{false}
@@ -16,6 +17,7 @@ use Rattle.std.proofs.lemmas.Bool.{lt-leb}
 use Rattle.choice.specs.When.{when_true, when_false}
 use Rattle.choice.specs.Count.{left, gone}
 use Rattle.chars.specs.Marks.{marked}
+use Rattle.chars.specs.Same.{same_bytes}
 use Rattle.slots.specs.Slots.{attribute_slot, name_bytes, base_of, length_in}
 use Rattle.slots.specs.Copied.{name_mark, copied, agreed, is_name, doubled_from, doubled_in}
 
@@ -62,6 +64,18 @@ module _ (R : List ℕ) (s n at : ℕ) (t : List ℕ) where
       → agreed R s n at (drop at t) ≡ agreed R s (n + 1) (at + 1) (drop (at + 1) t)
   unfolding agreed
   agreed_on h l e = ap (agreed R s n at) (next t at h) ∙ when_false _ _ _ (lt-leb (length_in R s) n l) ∙ when_true _ _ _ (eq-eqb _ _ e)
+
+module _ (R : List ℕ) (s at n other : ℕ) (e : other ≡ base_of s) where
+  pub name_length_lem : (get_or R (other + name_bytes) 0 ≡ n → ⊥) → false ≡ is_name R s at n
+  unfolding is_name
+  name_length_lem d = sym (when_false _ (same_bytes R (base_of s) R at n) _ (ne_eqb _ n (λ q. d (ap (λ k. get_or R (k + name_bytes) 0) e ∙ q))))
+
+  pub name_bytes_lem : {r : Bool} → get_or R (other + name_bytes) 0 ≡ n → r ≡ same_bytes R other R at n → r ≡ is_name R s at n
+  unfolding is_name
+  name_bytes_lem l h =
+      h
+      ∙ ap (λ k. same_bytes R k R at n) e
+      ∙ sym (when_true _ _ false (eq-eqb _ n (ap (λ k. get_or R (k + name_bytes) 0) (sym e) ∙ l)))
 
 pub doubled_begin : (R : List ℕ) (count n at : ℕ) → at ≡ base_of (attribute_slot + count) → doubled_in R count n ≡ doubled_from R at n 0 (count - 0)
 unfolding doubled_in

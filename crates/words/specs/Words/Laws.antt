@@ -1,7 +1,8 @@
 -- What the numbers of bytes are, place by place.
 --
 --   words_at        the number at a place is that of its 4 bytes
---   words_put       the bytes of a number written at its place are one number written;  one_run: bytes that are copied to a place are written there
+--   words_put       a number written byte by byte is one number written
+--   words_put_run   the bytes of a number written at its place are one number written;  one_run: bytes that are copied to a place are written there
 --   words_length    how many numbers there are;  bytes_length: how many bytes
 --   bytes_words     the bytes of the numbers of bytes are these, where their length is a multiple of 4
 --   words_bytes     the numbers of the bytes of numbers under 2 ^ 32 are these
@@ -63,6 +64,18 @@ words_at bs i h =
     ∙ ap₂ (λ j k. word (get_or bs (4 * i) 0) (get_or bs (suc (4 * i)) 0) (get_or bs j 0) (get_or bs k 0)) (add_two (4 * i)) (add_three (4 * i))
     ∙ at_bytes bs i (4 * i) refl h
 
+module _ (bs : List ℕ) (i v : ℕ) where
+  -- the bytes of v from place i on
+  abbrev wrote : ℕ → ℕ → ℕ → List ℕ
+  wrote j k l = set (set (set (set bs (4 * i) (v % 256)) j (v / 256 % 256)) k (v / 256 / 256 % 256)) l (v / 256 / 256 / 256 % 256)
+
+  pub words_put : 4 * i + 4 ≤ length bs → v < 4294967296 → words (wrote (4 * i + 1) (4 * i + 2) (4 * i + 3)) ≡ set (words bs) i v
+  words_put h l =
+      ap (λ j. words (wrote j (4 * i + 2) (4 * i + 3))) (add-one (4 * i))
+      ∙ ap₂ (λ j k. words (wrote (suc (4 * i)) j k)) (add_two (4 * i)) (add_three (4 * i))
+      ∙ put_bytes bs i (4 * i) _ _ _ _ refl h
+      ∙ ap (set (words bs) i) (word_bytes v l)
+
 le_word : (v : ℕ) → v < 4294967296 → word (v % 256) (v / 256 % 256) (v / 65536 % 256) (v / 16777216 % 256) ≡ v
 le_word v h = omega arith
 
@@ -73,9 +86,9 @@ one_run l vs ys at same fits =
     ap₂ (λ x y. take at l ++ (x ++ y)) same (Post-is at (at + length vs) l (omega arith))
     ∙ sym (append_assoc (take at l) vs (drop (at + length vs) l)) ∙ sym (sets-eq vs l at fits)
 
-pub words_put :
+pub words_put_run :
     (bs : List ℕ) (i v : ℕ) → 4 * i + 4 ≤ length bs → v < 4294967296 → words (sets bs (4 * i) (to_le_bytes w32 v)) ≡ set (words bs) i v
-words_put bs i v h l = put_bytes bs i (4 * i) _ _ _ _ refl h ∙ ap (set (words bs) i) (le_word v l)
+words_put_run bs i v h l = put_bytes bs i (4 * i) _ _ _ _ refl h ∙ ap (set (words bs) i) (le_word v l)
 
 pub words_length : (n : ℕ) (bs : List ℕ) → length bs ≡ 4 * n → length (words bs) ≡ n
 unfolding words

@@ -1,0 +1,2 @@
+-- The proofs of crate tags.
+pub mod Found
