@@ -13,6 +13,7 @@ use mathlib.Core.List.{List, [], ◌∷◌}
 use lib.ListN.{length, take, drop, length-take}
 use lib.Seq.{drop-drop, length-sets}
 use Rattle.feed.specs.Fed.{Fed}
+use Rattle.limits.specs.Number.{fault_of}
 use Rattle.session.specs.declared.Ran.{Ran}
 use Rattle.session.specs.Run.{Housed, ran}
 use Rattle.lines.specs.Put.{Put}
@@ -47,23 +48,24 @@ module _ (s : State) (input E N out : List ℕ) (r : Ran) (E' N' out' text text'
       ∙ sym (drop_take (8 * r.taken) (s.end - s.from) (drop s.from input))
 
   pub worked_so :
+      (x : ℕ) → x ≡ fault_of r.refusal →
       Worked s input E N out
       (record {
         session = r.session;
         from = s.from + 8 * r.taken;
         end = s.end;
         taken = s.taken + r.taken;
-        refusal = r.refusal;
+        refusal = x;
         ended = false;
         written = written;
       })
       E' N'
-  worked_so =
+  worked_so x e =
       let room : length text' ≡ length text = ap length put.text ∙ length-sets text 0 (lines_of (nodes_in r.listed out')) in
       record {
         seat_so = ap (λ (g : Fed Housed). g.seat) block;
         taken_so = ap (λ (g : Fed Housed). s.taken + g.taken) block;
-        refusal_so = ap (λ (g : Fed Housed). g.refusal) block;
+        refusal_so = e ∙ ap (λ (g : Fed Housed). g.refusal) block;
         left = past ∙ ap (λ (g : Fed Housed). drop (8 * g.taken) (unread s input)) block;
         within = record { forward = omega (arith, few, part_short input s.from s.end, w.forward); inside = w.inside };
         not_ended = refl;

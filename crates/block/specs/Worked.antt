@@ -6,7 +6,6 @@
 --
 -- Assumes nothing. NOT here: what a read makes of the state (crate reads, State), what both come to together (crate turns, Turns).
 use Rattle.std.specs.Prelude.{ℕ, ◌+◌, ◌*◌, ◌/◌, ◌≡◌, false, List, length, drop}
-use Rattle.limits.specs.Number.{fault_of}
 use Rattle.feed.specs.Fed.{Fed, fed}
 use Rattle.session.specs.Run.{Housed, housed, event_at}
 use Rattle.lines.specs.Text.{lines_of, nodes_in}
@@ -21,7 +20,7 @@ block_of s input E N out = fed event_at (length (unread s input) / 8) (housed s.
 pub record Worked (s : State) (input E N out : List ℕ) (s' : State) (E' N' : List ℕ) : Type 0 where
   pub seat_so : housed s'.session E' N' ≡ (block_of s input E N out).seat
   pub taken_so : s'.taken ≡ s.taken + (block_of s input E N out).taken
-  pub refusal_so : fault_of s'.refusal ≡ (block_of s input E N out).refusal
+  pub refusal_so : s'.refusal ≡ (block_of s input E N out).refusal
   pub left : unread s' input ≡ drop (8 * (block_of s input E N out).taken) (unread s input)
   pub within : UnreadWithin s' (length input)
   pub not_ended : s'.ended ≡ false

@@ -1,13 +1,15 @@
 // One block of events: those of what is read that are whole, and the lines of what they hand out, handed to standard output.
 #![tactic(auto)]
 
-ghost use Rattle.std.specs.Prelude.{◌*◌, ◌≤◌, length, take};
+ghost use Rattle.std.specs.Prelude.{◌≡◌, ◌*◌, ◌≤◌, length, take};
+ghost use Rattle.limits.specs.Number.{fault_of};
 ghost use Rattle.meaning.specs.Limits.{node_limit};
 ghost use Rattle.io.specs.Counts.{IsPrefixLen};
 ghost use Rattle.system.specs.Marks.{WriteTold};
 ghost use Rattle.reads.specs.State.{UnreadWithin};
 ghost use Rattle.block.specs.Worked.{Worked};
 
+use limits::Refusal;
 use reads::State;
 use std::io::Stdout;
 
@@ -17,6 +19,16 @@ pub fn write_text(to: Stdout, text: &[u8], length: usize) -> bool
     ensures { WriteTold (take length text.now) result }
 {
     system::write(to, &text[..length])
+}
+
+// The number of the refusal at which a block stops, 0 where it is none.
+fn number_of(refusal: Option<Refusal>) -> u8
+    ensures { result ≡ fault_of refusal }
+{
+    match refusal {
+        Some(refusal) => refusal.number(),
+        None => 0,
+    }
 }
 
 // Works on what is read, and writes the lines.
@@ -42,7 +54,7 @@ pub fn work_block(
         session: ran.session,
         from: state.from + 8 * ran.taken,
         taken: state.taken + ran.taken as u64,
-        refusal: ran.refusal,
+        refusal: number_of(ran.refusal),
         ended: false,
         written,
         ..state

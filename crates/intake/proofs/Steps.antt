@@ -12,10 +12,10 @@ use mathlib.Core.Logic.{◌⊎◌, inl, inr}
 use mathlib.Core.Path.{◌≡◌, refl, sym, ap, ◌∙◌, subst}
 use mathlib.Core.Bool.{Bool, false}
 use mathlib.Core.List.{List, append-nil, ◌++◌}
-use Rattle.std.specs.Prelude.{None}
 use lib.Dec.{eqb}
 use lib.ListN.{length, get_or, take, drop, length-take}
 use lib.Seq.{get_or-take, get_or-drop, length-take-le}
+use Rattle.limits.specs.Number.{text_of}
 use Rattle.text_right.proofs.Quiet.{Bytes}
 use Rattle.reader.specs.Feed.{Came, feed_answer}
 use Rattle.system.specs.declared.File.{File}
@@ -33,26 +33,26 @@ part_bytes l a n b =
     }
 
 pub fed_so :
-    (N X : List ℕ) (i : Intake) (u R out : List ℕ) (z : Came) → Bytes u → z ≡ feed_answer N X u i.reader R out →
+    (N X : List ℕ) (i : Intake) (u R out : List ℕ) (z : Came) (q : ℕ) → Bytes u → z ≡ feed_answer N X u i.reader R out → q ≡ text_of z.refusal →
     FedText N X i u R out
     (record {
       reader = z.reader;
       from = i.from + z.taken;
       end = i.end;
       taken = i.taken + z.taken;
-      refusal = z.refusal;
+      refusal = q;
       ended = false;
       written = z.written;
     })
     z.room z.out
-fed_so N X i u R out z b e =
+fed_so N X i u R out z q b e number =
     record {
       bytes = b;
       reader_so = ap (λ (c : Came). c.reader) e;
       from_so = ap (λ (c : Came). i.from + c.taken) e;
       end_same = refl;
       taken_so = ap (λ (c : Came). i.taken + c.taken) e;
-      refusal_so = ap (λ (c : Came). c.refusal) e;
+      refusal_so = number ∙ ap (λ (c : Came). text_of c.refusal) e;
       written_so = ap (λ (c : Came). c.written) e;
       room_so = ap (λ (c : Came). c.room) e;
       out_so = ap (λ (c : Came). c.out) e;
@@ -61,7 +61,7 @@ fed_so N X i u R out z b e =
 
 module _ (file : File) (i : Intake) (input input' : List ℕ) (r : ℕ) where
   abbrev after : Bool → Intake
-  after e = record { reader = i.reader; from = 0; end = r; taken = i.taken; refusal = None; ended = e; written = 0 }
+  after e = record { reader = i.reader; from = 0; end = r; taken = i.taken; refusal = 0; ended = e; written = 0 }
 
   came_with :
       (e : Bool) → e ≡ eqb r 0 → r ≤ length input' → ((before : List ℕ) → Received file before → Received file (before ++ take r input')) →

@@ -84,22 +84,22 @@ verdict_end false n = refl
 
 module _ {N X : List ℕ} {file : File} {i : Intake} {input R : List ℕ} {es : List Ev} (h : InText N X file i input R es) where
   -- a byte was refused
-  refused_told : (text_of i.refusal ≡ 0 → ⊥) → Told file i es
+  refused_told : (i.refusal ≡ 0 → ⊥) → Told file i es
   unfolding verdict_for end_of
   refused_told z =
       let stop = h.refused_so z in
-      let same : end_of i.reader (text_of i.refusal) ≡ text_of i.refusal = when_false _ _ _ (ne_eqb (text_of i.refusal) 0 z) in
+      let same : end_of i.reader i.refusal ≡ i.refusal = when_false _ _ _ (ne_eqb i.refusal 0 z) in
       let place : length h.bytes - length (drop i.taken h.bytes) ≡ i.taken = omega (arith, h.inside, length-drop i.taken h.bytes) in
       record {
         text = h.bytes;
         received = h.received;
-        to_end = inr (inr (refused_same h.bytes es (text_of i.refusal) (drop i.taken h.bytes) stop));
-        events_so = sym (refused_events h.bytes es (text_of i.refusal) (drop i.taken h.bytes) stop);
+        to_end = inr (inr (refused_same h.bytes es i.refusal (drop i.taken h.bytes) stop));
+        events_so = sym (refused_events h.bytes es i.refusal (drop i.taken h.bytes) stop);
         verdict_so =
             ap (λ (q : ℕ). when (eqb q 0) None (refused_at q (i.taken + 1))) same
-            ∙ when_false _ _ _ (ne_eqb (text_of i.refusal) 0 z)
-            ∙ ap (λ (k : ℕ). refused_at (text_of i.refusal) (k + 1)) (sym place)
-            ∙ sym (refused_verdict h.bytes es (text_of i.refusal) (drop i.taken h.bytes) stop);
+            ∙ when_false _ _ _ (ne_eqb i.refusal 0 z)
+            ∙ ap (λ (k : ℕ). refused_at i.refusal (k + 1)) (sym place)
+            ∙ sym (refused_verdict h.bytes es i.refusal (drop i.taken h.bytes) stop);
       }
 
   -- the text ended
@@ -111,8 +111,8 @@ module _ {N X : List ℕ} {file : File} {i : Intake} {input R : List ℕ} {es : 
       let long : length h.bytes ≡ i.taken = omega (arith, h.inside, (h.ended_so e).1) in
       let was = h.read z in
       let reads : read_text h.bytes ≡ stands es (state_of i.reader (used R)) = ap read_text (sym all) ∙ was.reads in
-      let last : end_of i.reader (text_of i.refusal) ≡ when (is_after (state_of i.reader (used R))) 0 unended =
-      when_true _ _ _ (eq-eqb (text_of i.refusal) 0 z) ∙ finish_is N X _ i.reader R es was in
+      let last : end_of i.reader i.refusal ≡ when (is_after (state_of i.reader (used R))) 0 unended =
+      when_true _ _ _ (eq-eqb i.refusal 0 z) ∙ finish_is N X _ i.reader R es was in
       record {
         text = h.bytes;
         received = h.received;
@@ -129,6 +129,6 @@ module _ {N X : List ℕ} {file : File} {i : Intake} {input R : List ℕ} {es : 
       by_end (inl o) = inl o
       by_end (inr l) = inr (inl l)
 
-  pub text_told : (text_of i.refusal ≡ 0 → ⊥) ⊎ (i.ended ≡ true) → Told file i es
+  pub text_told : (i.refusal ≡ 0 → ⊥) ⊎ (i.ended ≡ true) → Told file i es
   text_told (inl z) = refused_told z
   text_told (inr e) = ended_told e

@@ -29,7 +29,7 @@ use Rattle.reader_right.proofs.TextRead.{text_begun, Kept, FeedCame, lent_scant,
 use Rattle.system.specs.declared.File.{File}
 use Rattle.system.specs.Marks.{ReadOver, Received, nothing_yet}
 use Rattle.intake.specs.declared.Intake.{Intake}
-use Rattle.intake.specs.Owed.{read_text, refused_later}
+use Rattle.intake.specs.Owed.{TextNumber, text_named, read_text, refused_later}
 use Rattle.intake.specs.Intake.{longest, begun, unread_text, WithinText, FedText, TextCame, Advanced, fed, came}
 use Rattle.intake.specs.Intake.Laws.{unread_long, unread_on, taken_within}
 
@@ -41,9 +41,10 @@ pub record InText (N X : List ℕ) (file : File) (i : Intake) (input R : List �
   pub inside : i.taken ≤ length bytes
   pub rest : unread_text i input ≡ drop i.taken bytes
   pub few : i.taken + (i.end - i.from) ≤ longest + 65536
-  pub read : text_of i.refusal ≡ 0 → TextRead N X (take i.taken bytes) i.reader R es
-  pub refused_so : (text_of i.refusal ≡ 0 → ⊥) → read_text bytes ≡ stopped es (text_of i.refusal) (drop i.taken bytes)
-  pub ended_so : i.ended ≡ true → (text_of i.refusal ≡ 0) × (length bytes ≤ i.taken)
+  pub named : TextNumber i.refusal
+  pub read : i.refusal ≡ 0 → TextRead N X (take i.taken bytes) i.reader R es
+  pub refused_so : (i.refusal ≡ 0 → ⊥) → read_text bytes ≡ stopped es i.refusal (drop i.taken bytes)
+  pub ended_so : i.ended ≡ true → (i.refusal ≡ 0) × (length bytes ≤ i.taken)
   pub at_end : i.ended ≡ true → ReadOver file ⊎ (longest ≤ length bytes)
 
 pub begun_text : (N X : List ℕ) (file : File) (input R : List ℕ) → room_needed ≤ length R → InText N X file begun input R []
@@ -55,6 +56,7 @@ begun_text N X file input R room =
       inside = omega arith;
       rest = refl;
       few = omega arith;
+      named = inl refl;
       read = λ z. text_begun N X R room;
       refused_so = λ z. absurd (z refl);
       ended_so = λ e. never e;
@@ -67,7 +69,7 @@ pub record Onward (N X : List ℕ) (file : File) (es : List Ev) (R out : List �
   pub wrote : Wrote out (records_in (number_of N X) more) out' i'.written
   pub same_room : length R' ≡ length R
 
-module _ (N X : List ℕ) (file : File) (i : Intake) (input R : List ℕ) (es : List Ev) (h : InText N X file i input R es) (going : text_of i.refusal ≡ 0) where
+module _ (N X : List ℕ) (file : File) (i : Intake) (input R : List ℕ) (es : List Ev) (h : InText N X file i input R es) (going : i.refusal ≡ 0) where
   -- the text that is read, and what is unread of it
   abbrev pub t : List ℕ
   t = take i.taken h.bytes
@@ -105,8 +107,8 @@ module _ (N X : List ℕ) (file : File) (i : Intake) (input R : List ℕ) (es : 
 
     -- what has not changed, by what was read
     fed_text :
-        (gs : List Ev) → (text_of i'.refusal ≡ 0 → TextRead N X (take i'.taken h.bytes) i'.reader R' gs)
-        → ((text_of i'.refusal ≡ 0 → ⊥) → read_text h.bytes ≡ stopped gs (text_of i'.refusal) (drop i'.taken h.bytes))
+        (gs : List Ev) → (i'.refusal ≡ 0 → TextRead N X (take i'.taken h.bytes) i'.reader R' gs)
+        → ((i'.refusal ≡ 0 → ⊥) → read_text h.bytes ≡ stopped gs i'.refusal (drop i'.taken h.bytes))
         → InText N X file i' input R' gs
     fed_text gs a b =
         record {
@@ -120,6 +122,7 @@ module _ (N X : List ℕ) (file : File) (i : Intake) (input R : List ℕ) (es : 
           inside = omega (arith, f.taken_so, taken_more);
           rest = rest_so;
           few = omega (arith, f.from_so, f.end_same, f.taken_so, k_within, h.within.forward, h.few);
+          named = subst TextNumber (sym f.refusal_so) (text_named c.refusal);
           read = a;
           refused_so = b;
           ended_so = λ e. never (sym f.not_ended ∙ e);
@@ -143,7 +146,7 @@ module _ (N X : List ℕ) (file : File) (i : Intake) (input R : List ℕ) (es : 
         (λ a.
         subst (λ (l : List ℕ). TextRead N X l i'.reader R' (es ++ fs)) (text_more ∙ ap (λ (n : ℕ). take n h.bytes) (sym f.taken_so))
         (rw (f.reader_so, f.room_so) x))
-        (λ b. absurd (b (ap text_of f.refusal_so ∙ z))))
+        (λ b. absurd (b (f.refusal_so ∙ z))))
     fed_onward (refused fs b w pos same e stop k) =
         let at : drop (i.taken + c.taken) h.bytes ≡ b ∷ w = sym rest_more ∙ e in
         let whole : ((t ++ take c.taken u) ++ (b ∷ [])) ++ w ≡ h.bytes =
@@ -152,10 +155,10 @@ module _ (N X : List ℕ) (file : File) (i : Intake) (input R : List ℕ) (es : 
         ∙ take-append-drop (i.taken + c.taken) h.bytes in
         let later = refused_later ((t ++ take c.taken u) ++ (b ∷ [])) (es ++ fs) (text_of c.refusal) (b ∷ []) stop w in
         kept_onward fs k
-        (fed_text (es ++ fs) (λ a. absurd (omega (arith, pos, a, ap text_of f.refusal_so)))
+        (fed_text (es ++ fs) (λ a. absurd (omega (arith, pos, a, f.refusal_so)))
         (λ z.
         ap read_text (sym whole) ∙ later
-        ∙ ap₂ (λ (q : ℕ) (l : List ℕ). stopped (es ++ fs) q l) (sym (ap text_of f.refusal_so)) (sym at ∙ ap (λ (n : ℕ). drop n h.bytes) (sym f.taken_so))))
+        ∙ ap₂ (λ (q : ℕ) (l : List ℕ). stopped (es ++ fs) q l) (sym f.refusal_so) (sym at ∙ ap (λ (n : ℕ). drop n h.bytes) (sym f.taken_so))))
 
   module _ (out : List ℕ) (i' : Intake) (input' : List ℕ) (none_left : i.end ≤ i.from) (short : length input' ≤ 65536) (some : 0 < length input)
       (m : TextCame file i input i' input') where
@@ -190,6 +193,7 @@ module _ (N X : List ℕ) (file : File) (i : Intake) (input R : List ℕ) (es : 
                     m.unread_so ∙ sym (drop_at h.bytes m.bytes i.taken all_read)
                     ∙ ap (λ (n : ℕ). drop n (h.bytes ++ m.bytes)) (sym m.taken_same);
                 few = few_more;
+                named = inl m.unrefused;
                 read =
                     λ z. subst (λ (l : List ℕ). TextRead N X l i'.reader R (es ++ [])) (sym whole)
                     (rw (m.reader_same, append-nil es) read_so_far);

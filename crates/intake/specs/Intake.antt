@@ -29,7 +29,7 @@ abbrev pub longest : ℕ
 longest = 9_223_372_036_854_775_808
 
 abbrev pub begun : Intake
-begun = record { reader = fresh_reader; from = 0; end = 0; taken = 0; refusal = None; ended = false; written = 0 }
+begun = record { reader = fresh_reader; from = 0; end = 0; taken = 0; refusal = 0; ended = false; written = 0 }
 
 abbrev pub unread_text : Intake → List ℕ → List ℕ
 unread_text i input = take (i.end - i.from) (drop i.from input)
@@ -45,7 +45,7 @@ pub record FedText (N X : List ℕ) (i : Intake) (u R out : List ℕ) (i' : Inta
   pub from_so : i'.from ≡ i.from + (feed_answer N X u i.reader R out).taken
   pub end_same : i'.end ≡ i.end
   pub taken_so : i'.taken ≡ i.taken + (feed_answer N X u i.reader R out).taken
-  pub refusal_so : i'.refusal ≡ (feed_answer N X u i.reader R out).refusal
+  pub refusal_so : i'.refusal ≡ text_of (feed_answer N X u i.reader R out).refusal
   pub written_so : i'.written ≡ (feed_answer N X u i.reader R out).written
   pub room_so : R' ≡ (feed_answer N X u i.reader R out).room
   pub out_so : out' ≡ (feed_answer N X u i.reader R out).out
@@ -65,7 +65,7 @@ pub record TextCame (file : File) (i : Intake) (input : List ℕ) (i' : Intake) 
   pub within : WithinText i' (length input')
   pub reader_same : i'.reader ≡ i.reader
   pub taken_same : i'.taken ≡ i.taken
-  pub unrefused : text_of i'.refusal ≡ 0
+  pub unrefused : i'.refusal ≡ 0
   pub none_written : i'.written ≡ 0
   pub ended_so : i'.ended ≡ eqb (length bytes) 0
   pub over : length bytes ≡ 0 → 0 < length input → ReadOver file ⊎ (longest ≤ i.taken)
@@ -81,4 +81,4 @@ end_of r q = when (eqb q 0) (text_of (finish_answer r).refusal) q
 
 unfoldable pub verdict_for : Intake → Option Judged
 verdict_for i =
-    when (eqb (end_of i.reader (text_of i.refusal)) 0) None (refused_at (end_of i.reader (text_of i.refusal)) (i.taken + 1))
+    when (eqb (end_of i.reader i.refusal) 0) None (refused_at (end_of i.reader i.refusal) (i.taken + 1))

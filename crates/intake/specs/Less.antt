@@ -21,11 +21,11 @@ use Rattle.intake.specs.InText.{InText, t, few_more}
 
 abbrev pub text_left : Intake → ℕ
 text_left i =
-    (longest + 65536 - i.taken) + (longest + 65536 - (i.taken + (i.end - i.from))) + (bool_byte (eqb (text_of i.refusal) 0) + bool_byte (not i.ended))
+    (longest + 65536 - i.taken) + (longest + 65536 - (i.taken + (i.end - i.from))) + (bool_byte (eqb i.refusal 0) + bool_byte (not i.ended))
 
-module _ (N X : List ℕ) (file : File) (i : Intake) (input R : List ℕ) (es : List Ev) (h : InText N X file i input R es) (going : text_of i.refusal ≡ 0)
+module _ (N X : List ℕ) (file : File) (i : Intake) (input R : List ℕ) (es : List Ev) (h : InText N X file i input R es) (going : i.refusal ≡ 0)
     (on : i.ended ≡ false) where
-  flags : bool_byte (eqb (text_of i.refusal) 0) + bool_byte (not i.ended) ≡ 2
+  flags : bool_byte (eqb i.refusal 0) + bool_byte (not i.ended) ≡ 2
   flags = ap₂ (λ (x : ℕ) (y : Bool). bool_byte (eqb x 0) + bool_byte (not y)) going on
 
   fed_less :
@@ -43,10 +43,9 @@ module _ (N X : List ℕ) (file : File) (i : Intake) (input R : List ℕ) (es : 
           ⊎ (0 < text_of (feed_answer N X (unread_text i input) i.reader R out).refusal) →
           text_left i' < text_left i
       go (inl some) =
-          omega (arith, flags, some, k, h.few, f.from_so, f.end_same, f.taken_so, bool_byte_le (eqb (text_of i'.refusal) 0), bool_byte_le (not i'.ended))
+          omega (arith, flags, some, k, h.few, f.from_so, f.end_same, f.taken_so, bool_byte_le (eqb i'.refusal 0), bool_byte_le (not i'.ended))
       go (inr some) =
-          let refused : bool_byte (eqb (text_of i'.refusal) 0) ≡ 0 =
-          ap bool_byte (ne_eqb _ 0 (λ z. omega (arith, some, z, ap text_of f.refusal_so))) in
+          let refused : bool_byte (eqb i'.refusal 0) ≡ 0 = ap bool_byte (ne_eqb i'.refusal 0 (λ z. omega (arith, some, z, f.refusal_so))) in
           omega (arith, flags, refused, k, h.few, f.from_so, f.end_same, f.taken_so, bool_byte_le (not i'.ended))
 
   came_less :
@@ -57,7 +56,7 @@ module _ (N X : List ℕ) (file : File) (i : Intake) (input R : List ℕ) (es : 
       go : (b : Bool) → eqb (length m.bytes) 0 ≡ b → text_left i' < text_left i
       go true e =
           let last : bool_byte (not i'.ended) ≡ 0 = ap (λ (x : Bool). bool_byte (not x)) (m.ended_so ∙ e) in
-          omega (arith, flags, last, eqb-true (length m.bytes) 0 e, m.count, m.taken_same, none_left, bool_byte_le (eqb (text_of i'.refusal) 0))
+          omega (arith, flags, last, eqb-true (length m.bytes) 0 e, m.count, m.taken_same, none_left, bool_byte_le (eqb i'.refusal 0))
       go false e =
           omega (
             arith,
@@ -67,7 +66,7 @@ module _ (N X : List ℕ) (file : File) (i : Intake) (input R : List ℕ) (es : 
             m.taken_same,
             none_left,
             few_more N X file i input R es h going out i' input' none_left short some m,
-            bool_byte_le (eqb (text_of i'.refusal) 0),
+            bool_byte_le (eqb i'.refusal 0),
             bool_byte_le (not i'.ended),
           )
 

@@ -2,6 +2,7 @@
 --
 --   Judged               a verdict with its refusal's number
 --   judged v             the code's verdict so;  judged_one: two verdicts of the code that are the same so are equal
+--   Named n              n is a refusal's number;  TextNumber n: or 0;  text_named: so is the number of a refusal that may be none
 --   refused_at r k        the verdict that refuses with r at k
 --   verdict_by n z        the verdict on a text of n bytes of which the machine came to z
 --   text_verdict t        THE VERDICT on a text: the refusal and its byte, counted from 1, or none
@@ -11,14 +12,13 @@
 --   refused_later, refused_same      what follows a refused byte changes nothing of this
 --
 -- Assumes nothing. NOT here: which texts are read, and with which events (crate xml), what a list of names may have (crate listed).
-use Rattle.std.specs.Prelude.{ℕ, ◌+◌, ◌-◌, ◌≡◌, refl, List, ◌++◌, Option, None, Some, length}
-use Rattle.std.proofs.Common.{arith, ◌∙◌, sym, ap₂, length-append}
+use Rattle.std.specs.Prelude.{ℕ, ◌+◌, ◌-◌, ◌⊎◌, ◌≡◌, refl, List, ◌++◌, Option, None, Some, length}
+use Rattle.std.proofs.Common.{arith, inl, inr, ◌∙◌, sym, length-append}
 use Rattle.std.proofs.lemmas.Option.{same_Some, none-some}
 use Rattle.std.proofs.Math.Path.{ap}
 use Rattle.choice.specs.When.{when}
 use Rattle.limits.specs.declared.TextRefusal.{TextRefusal}
-use Rattle.limits.specs.Number.{text_number}
-use Rattle.limits.specs.Number.Laws.{text_one}
+use Rattle.limits.specs.Number.{text_number, text_of}
 use Rattle.xml.specs.Refused.{unended}
 use Rattle.xml.specs.Grammar.{Ev}
 use Rattle.xml.specs.Machine.{State, Result, stopped, stands, run}
@@ -40,18 +40,27 @@ refused_at r k = Some (record { refusal = r; at = k })
 
 abbrev pub judged : Option Verdict → Option Judged
 judged None = None
-judged (Some v) = refused_at (text_number v.refusal) v.at
-
-same_parts : (v w : Judged) → Some v ≡ Some w → (v.refusal ≡ w.refusal) × (v.at ≡ w.at)
-same_parts v w e = let f = same_Some v w e in (ap (λ (j : Judged). j.refusal) f, ap (λ (j : Judged). j.at) f)
+judged (Some v) = refused_at v.refusal v.at
 
 pub judged_one : (v w : Option Verdict) → judged v ≡ judged w → v ≡ w
 judged_one None None e = refl
 judged_one None (Some w) e = absurd (none-some _ e)
 judged_one (Some v) None e = absurd (none-some _ (sym e))
 judged_one (Some v) (Some w) e =
-    let f = same_parts _ _ e in
-    ap Some (ap₂ (λ (r : TextRefusal) (k : ℕ). record { refusal = r; at = k }) (text_one v.refusal w.refusal f.0) f.1)
+    ap (λ (j : Judged). Some (record { refusal = j.refusal; at = j.at })) (same_Some _ _ e)
+
+-- the numbers that a refusal, or none, has
+
+pub record Named (n : ℕ) : Type 0 where
+  pub refusal : TextRefusal
+  pub number : text_number refusal ≡ n
+
+abbrev pub TextNumber : ℕ → Type 0
+TextNumber n = (n ≡ 0) ⊎ Named n
+
+pub text_named : (o : Option TextRefusal) → TextNumber (text_of o)
+text_named None = inl refl
+text_named (Some r) = inr (record { refusal = r; number = refl })
 
 -- "the byte is the one that the refusal is given at, counted from 1"; 44: "one past the last byte"
 abbrev pub verdict_by : ℕ → Result → Option Judged

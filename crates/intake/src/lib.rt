@@ -1,11 +1,11 @@
 // The list of names and the text of a catalogue as they come: the file of names, one read more of the text, and the events of what has come.
 #![tactic(auto)]
 
-ghost use Rattle.std.specs.Prelude.{◌≡◌, ◌+◌, ◌≤◌, ◌<◌, length};
+ghost use Rattle.std.specs.Prelude.{◌≡◌, ◌+◌, ◌≤◌, ◌<◌, length, IfSome};
 ghost use Rattle.io.specs.Counts.{IsPrefixLen};
 ghost use Rattle.limits.specs.Number.{text_of};
 ghost use Rattle.intake.specs.Names.{NamesGiven};
-ghost use Rattle.intake.specs.Owed.{judged};
+ghost use Rattle.intake.specs.Owed.{judged, TextNumber, Named};
 ghost use Rattle.intake.specs.Intake.{begun, longest, unread_text, WithinText, FedText, Asked, TextCame, Advanced, end_of, verdict_for};
 
 use limits::TextRefusal;
@@ -24,18 +24,18 @@ pub struct Intake {
     pub end: usize,
     // How many bytes are read.
     pub taken: u64,
-    // The refusal of the byte after them, if it is refused.
-    pub refusal: Option<TextRefusal>,
+    // The refusal of the byte after them, or 0. Kept: a number, since a caller may give one that no refusal of text has, and `judge` tells that too.
+    pub refusal: u8,
     // Whether no more comes.
     pub ended: bool,
     // How many bytes of event records the last turn has written.
     pub written: usize,
 }
 
-// A refusal and where: a line of the list or a byte of the text, counted from 1.
+// A refusal's number and where: a line of the list or a byte of the text, counted from 1.
 #[derive(Clone, Copy)]
 pub struct Verdict {
-    pub refusal: TextRefusal,
+    pub refusal: u8,
     pub at: u64,
 }
 
@@ -48,7 +48,7 @@ pub fn begin() -> Intake
         from: 0,
         end: 0,
         taken: 0,
-        refusal: None,
+        refusal: 0,
         ended: false,
         written: 0,
     }
@@ -95,10 +95,20 @@ fn read_text(file: &File, intake: Intake, input: &mut [u8]) -> Intake
     Intake {
         from: 0,
         end: more,
-        refusal: None,
+        refusal: 0,
         ended: more == 0,
         written: 0,
         ..intake
+    }
+}
+
+// The number of a refusal, or 0.
+fn number_of(refusal: Option<TextRefusal>) -> u8
+    ensures { result ≡ text_of refusal }
+{
+    match refusal {
+        Some(refusal) => refusal.number(),
+        None => 0,
     }
 }
 
@@ -122,7 +132,7 @@ fn feed_text(
         reader: fed.reader,
         from: intake.from + fed.taken,
         taken: intake.taken + fed.taken as u64,
-        refusal: fed.refusal,
+        refusal: number_of(fed.refusal),
         ended: false,
         written: fed.written,
         ..intake
@@ -151,19 +161,27 @@ pub fn advance(
     }
 }
 
-// The refusal of a text that was read to its end or to a refused byte, if it is refused: "the text ends, and it is not a whole document".
-fn ending(reader: Reader, refusal: Option<TextRefusal>) -> Option<TextRefusal>
-    ensures { text_of result ≡ end_of reader (text_of refusal) }
+// The refusal of a text that was read to its end or to a refused byte, or 0: "the text ends, and it is not a whole document".
+#[tactic(auto, unfolding(crate::specs::Intake::end_of, choice::specs::When::when))]
+fn ending(reader: Reader, refusal: u8) -> u8
+    ensures { result ≡ end_of reader refusal }
 {
-    refusal.or(reader::finish(reader).refusal)
+    if refusal != 0 {
+        return refusal;
+    }
+    number_of(reader::finish(reader).refusal)
 }
 
 // The verdict on it, if it is refused: a refused byte is the one after those that were read, and so is the end.
 pub fn judge(intake: Intake) -> Option<Verdict>
     requires { intake.taken ≤ longest + 65536 }
-    ensures { judged result ≡ verdict_for intake }
+    ensures verdict { judged result ≡ verdict_for intake }
+    ensures named { TextNumber intake.refusal → IfSome result (λ v. Named v.refusal) }
 {
-    let refusal = ending(intake.reader, intake.refusal)?;
+    let refusal = ending(intake.reader, intake.refusal);
+    if refusal == 0 {
+        return None;
+    }
     Some(Verdict {
         refusal,
         at: intake.taken + 1,

@@ -3,7 +3,7 @@
 --   after_place             the place after the document element
 --   open_at p               how many elements are open at the place p: so, too, the slot of the one that was just closed
 --   go_to r m               on in the mode m;  stay_in r m: with nothing else changed
---   refuse_with r x         stopped by the refusal x, where it stands
+--   stop_with r n           stopped by the refusal with the number n, where it stands;  refuse_with r x: by the refusal x
 --   spell_on r m row n      on in a spelling, n bytes of which were read
 --   go_aside r m n k        on in the mode m, to come back to k
 --   give_out r g m p        events are given, and the reader is at the place p
@@ -30,26 +30,29 @@ unfoldable pub open_at : ℕ → ℕ
 open_at p = when (eqb p after_place) 0 p
 
 abbrev pub go_to : Reader → Mode → Reader
-go_to r m = record { mode = m; back = r.back; n = 0; row = r.row; count = r.count; gives = Nothing; refusal = None; place = r.place }
+go_to r m = record { mode = m; back = r.back; n = 0; row = r.row; count = r.count; gives = Nothing; refusal = 0; place = r.place }
 
 abbrev pub stay_in : Reader → Mode → Reader
-stay_in r m = record { mode = m; back = r.back; n = r.n; row = r.row; count = r.count; gives = Nothing; refusal = None; place = r.place }
+stay_in r m = record { mode = m; back = r.back; n = r.n; row = r.row; count = r.count; gives = Nothing; refusal = 0; place = r.place }
+
+abbrev pub stop_with : Reader → ℕ → Reader
+stop_with r x =
+    record { mode = r.mode; back = r.back; n = r.n; row = r.row; count = r.count; gives = Nothing; refusal = x; place = r.place }
 
 abbrev pub refuse_with : Reader → TextRefusal → Reader
-refuse_with r x =
-    record { mode = r.mode; back = r.back; n = r.n; row = r.row; count = r.count; gives = Nothing; refusal = Some x; place = r.place }
+refuse_with r x = stop_with r (text_number x)
 
 abbrev pub spell_on : Reader → Mode → ℕ → ℕ → Reader
-spell_on r m row n = record { mode = m; back = r.back; n = n; row = row; count = r.count; gives = Nothing; refusal = None; place = r.place }
+spell_on r m row n = record { mode = m; back = r.back; n = n; row = row; count = r.count; gives = Nothing; refusal = 0; place = r.place }
 
 abbrev pub go_aside : Reader → Mode → ℕ → Mode → Reader
-go_aside r m n k = record { mode = m; back = k; n = n; row = 0; count = r.count; gives = Nothing; refusal = None; place = r.place }
+go_aside r m n k = record { mode = m; back = k; n = n; row = 0; count = r.count; gives = Nothing; refusal = 0; place = r.place }
 
 abbrev pub give_out : Reader → Gives → Mode → ℕ → Reader
-give_out r g m p = record { mode = m; back = r.back; n = 0; row = r.row; count = 0; gives = g; refusal = None; place = p }
+give_out r g m p = record { mode = m; back = r.back; n = 0; row = r.row; count = 0; gives = g; refusal = 0; place = p }
 
 abbrev pub count_to : Reader → Mode → ℕ → Reader
-count_to r m k = record { mode = m; back = r.back; n = 0; row = r.row; count = k; gives = Nothing; refusal = None; place = r.place }
+count_to r m k = record { mode = m; back = r.back; n = 0; row = r.row; count = k; gives = Nothing; refusal = 0; place = r.place }
 
 pub refused_test : (o : Option TextRefusal) → eqb (text_of o) 0 ≡ not (is_some o)
 refused_test None = refl

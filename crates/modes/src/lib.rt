@@ -2,7 +2,7 @@
 #![tactic(auto)]
 
 ghost use Rattle.std.specs.Prelude.{◌≡◌};
-ghost use Rattle.modes.specs.Moves.{go_to, stay_in, refuse_with, spell_on, go_aside, give_out, count_to};
+ghost use Rattle.modes.specs.Moves.{go_to, stay_in, stop_with, refuse_with, spell_on, go_aside, give_out, count_to};
 
 use limits::TextRefusal;
 
@@ -99,8 +99,8 @@ pub struct Reader {
     pub row: u8,
     pub count: u8,
     pub gives: Gives,
-    // The refusal by which it was stopped.
-    pub refusal: Option<TextRefusal>,
+    // 0, or the number of the refusal by which it was stopped.
+    pub refusal: u8,
     pub place: u16,
 }
 
@@ -113,7 +113,7 @@ impl Reader {
             mode,
             n: 0,
             gives: Gives::Nothing,
-            refusal: None,
+            refusal: 0,
             ..self
         }
     }
@@ -125,7 +125,18 @@ impl Reader {
         Reader {
             mode,
             gives: Gives::Nothing,
-            refusal: None,
+            refusal: 0,
+            ..self
+        }
+    }
+
+    // Stopped by the refusal with a number.
+    pub fn stop(self, refusal: u8) -> Reader
+        ensures { result ≡ stop_with self refusal }
+    {
+        Reader {
+            gives: Gives::Nothing,
+            refusal,
             ..self
         }
     }
@@ -134,11 +145,7 @@ impl Reader {
     pub fn refuse(self, refusal: TextRefusal) -> Reader
         ensures { result ≡ refuse_with self refusal }
     {
-        Reader {
-            gives: Gives::Nothing,
-            refusal: Some(refusal),
-            ..self
-        }
+        self.stop(refusal.number())
     }
 
     // On in a spelling: n bytes of the row.
@@ -150,7 +157,7 @@ impl Reader {
             n,
             row,
             gives: Gives::Nothing,
-            refusal: None,
+            refusal: 0,
             ..self
         }
     }
@@ -165,7 +172,7 @@ impl Reader {
             n,
             row: 0,
             gives: Gives::Nothing,
-            refusal: None,
+            refusal: 0,
             ..self
         }
     }
@@ -179,7 +186,7 @@ impl Reader {
             n: 0,
             count: 0,
             gives,
-            refusal: None,
+            refusal: 0,
             place,
             ..self
         }
@@ -194,7 +201,7 @@ impl Reader {
             n: 0,
             count,
             gives: Gives::Nothing,
-            refusal: None,
+            refusal: 0,
             ..self
         }
     }

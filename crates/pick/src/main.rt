@@ -11,6 +11,7 @@ ghost use Rattle.turns.specs.Turns.{Started};
 ghost use Rattle.pick.specs.Program.{Outcome, Replied};
 ghost use Rattle.pick.specs.Events.{EventsAnswered};
 
+use limits::Refusal;
 use session::Session;
 
 // "a file that can't be opened counts as empty": every read of it fails. Where standard output takes no more, no last line is put.
@@ -43,8 +44,8 @@ fn answer_events(
     if !state.written {
         return 0;
     }
-    let finish = state.session.finish();
-    closing::line_of_end(finish, state.taken, state.refusal, text)
+    let finish = state.session.finish().map_err(Refusal::number);
+    closing::last_line(finish, state.taken, state.refusal, text)
 }
 
 // "The query is judged first"

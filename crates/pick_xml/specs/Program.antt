@@ -19,7 +19,6 @@
 pub mod Laws
 use Rattle.std.specs.Prelude.{ℕ, ◌+◌, ◌≤◌, ◌⊎◌, ◌≡◌, List, [], ◌∷◌, ◌++◌, Option as Perhaps, None, Some, eqb, length, take}
 use Rattle.std.proofs.Math.Option.{Option, none, some}
-use Rattle.limits.specs.Number.{fault_of}
 use Rattle.choice.specs.When.{when}
 use Rattle.meaning.specs.Query.{Query}
 use Rattle.meaning.specs.Stream.{Event, document}
@@ -54,9 +53,9 @@ last_line_for none q es v = text_line (finish_line_of q es) v
 
 unfoldable pub line_of : Stand → List ℕ
 line_of st =
-    when (eqb (fault_of st.state.refusal) 0)
-    (text_line (line_of_end (finish st.state.session) st.state.taken (fault_of st.state.refusal)) (verdict_for st.intake))
-    (line_of_end (finish st.state.session) st.state.taken (fault_of st.state.refusal))
+    when (eqb st.state.refusal 0)
+    (text_line (line_of_end (finish st.state.session) st.state.taken st.state.refusal) (verdict_for st.intake))
+    (line_of_end (finish st.state.session) st.state.taken st.state.refusal)
 
 abbrev pub written_for : Query → Offering → Perhaps Judged → List ℕ
 written_for q w v = lines_of (listed q (document w.events)) ++ last_line_for w.refusal q w.events v

@@ -13,6 +13,7 @@ ghost use Rattle.turns.specs.Turns.{Started};
 ghost use Rattle.intake.specs.Intake.{longest};
 ghost use Rattle.pick_xml.specs.Program.{line_of, TextAnswered, NamesAnswered, Replied, Outcome};
 
+use limits::Refusal;
 use session::Session;
 use text_turns::Stand;
 
@@ -23,12 +24,13 @@ fn last_line(stand: Stand, lines: &mut [u8]) -> usize
     ensures prefix_len { IsPrefixLen result lines.new }
 {
     let state = stand.state;
-    if state.refusal.is_none() {
+    if state.refusal == 0 {
         if let Some(verdict) = intake::judge(stand.intake) {
-            return lines::put_refused_at(verdict.refusal.number(), verdict.at, lines);
+            return lines::put_refused_at(verdict.refusal, verdict.at, lines);
         }
     }
-    closing::line_of_end(state.session.finish(), state.taken, state.refusal, lines)
+    let finish = state.session.finish().map_err(Refusal::number);
+    closing::last_line(finish, state.taken, state.refusal, lines)
 }
 
 // "a file that can't be opened counts as empty": every read of it fails. Where standard output takes no more, no last line is put.

@@ -8,10 +8,9 @@
 --
 -- Assumes nothing. NOT here: that this is the machine's run (crate text_right).
 pub mod Laws
-use Rattle.std.specs.Prelude.{ℕ, zero, suc, ◌-◌, Bool, false, None, List, eqb, leb, length}
+use Rattle.std.specs.Prelude.{ℕ, zero, suc, ◌-◌, Bool, false, List, eqb, leb, length}
 use Rattle.choice.specs.When.{when}
 use Rattle.chars.specs.Table.{marks_table}
-use Rattle.limits.specs.Number.{text_of}
 use Rattle.modes.specs.declared.Mode.TheVariants as mode
 use Rattle.modes.specs.declared.Prolog.TheVariants as prolog
 use Rattle.modes.specs.declared.Gives.TheVariants as gives
@@ -21,7 +20,7 @@ use Rattle.emit.specs.Emit.{Emitted, emitted}
 
 abbrev pub fresh_reader : Reader
 fresh_reader =
-    record { mode = mode.Prolog prolog.Start; back = mode.Data; n = 0; row = 0; count = 0; gives = gives.Nothing; refusal = None; place = 0 }
+    record { mode = mode.Prolog prolog.Start; back = mode.Data; n = 0; row = 0; count = 0; gives = gives.Nothing; refusal = 0; place = 0 }
 
 unfoldable pub more_to_read : ℕ → ℕ → ℕ → ℕ → ℕ → Bool
 more_to_read r at end w out = when (eqb r 0) (when (leb end at) false (leb 16 (out - w))) false
@@ -44,7 +43,7 @@ unfoldable pub advanced : List ℕ → List ℕ → List ℕ → List ℕ → Go
 advanced names x M t g = advanced_by names x g (turned M g.reader t g.at g.room)
 
 abbrev pub goes_on : List ℕ → Going → Bool
-goes_on t g = more_to_read (text_of g.reader.refusal) g.at (length t) g.written (length g.out)
+goes_on t g = more_to_read g.reader.refusal g.at (length t) g.written (length g.out)
 
 unfoldable pub read_for : ℕ → List ℕ → List ℕ → List ℕ → List ℕ → Going → Going
 read_for zero names x M t g = g

@@ -22,7 +22,7 @@ use Rattle.choice.specs.When.{when, when_true, when_false, never}
 use Rattle.limits.specs.declared.TextRefusal.{TextRefusal}
 use Rattle.limits.specs.declared.TextRefusal.TheVariants.{Unended, Scant, ReaderStopped}
 use Rattle.limits.specs.Number.{text_of}
-use Rattle.limits.specs.Number.Laws.{some_text}
+use Rattle.limits.specs.Number.Laws.{some_text, text_at}
 use Rattle.modes.specs.declared.Mode.{Mode}
 use Rattle.modes.specs.declared.Mode.TheVariants as mode
 use Rattle.modes.specs.declared.Reader.{Reader}
@@ -93,13 +93,13 @@ throughout R g =
       room = g.room ++ drop room_needed R;
       out = g.out;
       written = g.written;
-      refusal = g.reader.refusal;
+      refusal = text_at g.reader.refusal;
     }
 
 unfoldable pub feed_answer : List ℕ → List ℕ → List ℕ → Reader → List ℕ → List ℕ → Came
 feed_answer names x t r R out =
     when (too_scant (length R) (length x) (length out)) (untouched Scant r R out)
-    (when (eqb (text_of r.refusal) 0) (throughout R (read_on names x t r (take room_needed R) out)) (untouched ReaderStopped r R out))
+    (when (eqb r.refusal 0) (throughout R (read_on names x t r (take room_needed R) out)) (untouched ReaderStopped r R out))
 
 unfoldable pub around_only : Mode → Bool
 around_only mode.Around = true
@@ -110,7 +110,7 @@ whole_at p m = when (eqb p 65_535) (around_only m) false
 
 unfoldable pub finish_answer : Reader → Finished
 finish_answer r =
-    when (eqb (text_of r.refusal) 0)
+    when (eqb r.refusal 0)
     (when (whole_at r.place r.mode) (record { reader = r; refusal = None }) (record { reader = refuse_with r Unended; refusal = Some Unended }))
     (record { reader = r; refusal = Some ReaderStopped })
 
@@ -143,17 +143,17 @@ module _ (names x t : List ℕ) (r : Reader) (R out : List ℕ) where
   feed_scant e = sym (when_true _ _ _ e)
 
   module _ (e : too_scant (length R) (length x) (length out) ≡ false) where
-    pub feed_stopped : (text_of r.refusal ≡ 0 → ⊥) → untouched ReaderStopped r R out ≡ feed_answer names x t r R out
+    pub feed_stopped : (r.refusal ≡ 0 → ⊥) → untouched ReaderStopped r R out ≡ feed_answer names x t r R out
     unfolding feed_answer
-    feed_stopped f = sym (when_false _ _ _ e ∙ when_false _ _ _ (ne_eqb (text_of r.refusal) 0 f))
+    feed_stopped f = sym (when_false _ _ _ e ∙ when_false _ _ _ (ne_eqb r.refusal 0 f))
 
-    pub feed_read : text_of r.refusal ≡ 0 → throughout R (read_on names x t r (take room_needed R) out) ≡ feed_answer names x t r R out
+    pub feed_read : r.refusal ≡ 0 → throughout R (read_on names x t r (take room_needed R) out) ≡ feed_answer names x t r R out
     unfolding feed_answer
-    feed_read f = sym (when_false _ _ _ e ∙ when_true _ _ _ (eq-eqb (text_of r.refusal) 0 f))
+    feed_read f = sym (when_false _ _ _ e ∙ when_true _ _ _ (eq-eqb r.refusal 0 f))
 
     -- the needed part of the room, of which the code knows the length
     pub feed_came :
-        {k : ℕ} {q : Option TextRefusal} {g : Going} → text_of r.refusal ≡ 0 → room_needed ≡ k → g ≡ read_on names x t r (take k R) out → q ≡ g.reader.refusal
+        {k : ℕ} {q : Option TextRefusal} {g : Going} → r.refusal ≡ 0 → room_needed ≡ k → g ≡ read_on names x t r (take k R) out → q ≡ text_at g.reader.refusal
         → record { reader = g.reader; taken = g.at; room = g.room ++ drop k R; out = g.out; written = g.written; refusal = q }
         ≡ feed_answer names x t r R out
     feed_came {g = g} f e h j =
@@ -185,10 +185,10 @@ unfolding whole_at
 in_mode p m e f g = g ∙ ap around_only (sym f) ∙ sym (when_true _ _ false (eq-eqb p 65_535 e))
 
 pub finish_early :
-    (r : Reader) {z : Reader} → text_of r.refusal ≡ 0 → whole_at r.place r.mode ≡ false → z ≡ refuse_with r Unended
+    (r : Reader) {z : Reader} → r.refusal ≡ 0 → whole_at r.place r.mode ≡ false → z ≡ refuse_with r Unended
     → ◌≡◌ {A = Finished} (record { reader = z; refusal = Some Unended }) (finish_answer r)
 unfolding finish_answer
 finish_early r e f g =
-    ap (λ z. record { reader = z; refusal = Some Unended }) g ∙ sym (when_true _ _ _ (eq-eqb (text_of r.refusal) 0 e) ∙ when_false _ _ _ f)
+    ap (λ z. record { reader = z; refusal = Some Unended }) g ∙ sym (when_true _ _ _ (eq-eqb r.refusal 0 e) ∙ when_false _ _ _ f)
 
 pub ruleset feeding = (feed_scant, index_is, room_short, index_short, out_short)

@@ -2,7 +2,7 @@
 #![tactic(auto)]
 
 ghost use Rattle.std.specs.Prelude.{◌≡◌, ◌≤◌, length};
-ghost use Rattle.limits.specs.Number.{text_of};
+ghost use Rattle.limits.specs.Number.Laws.{text_at};
 ghost use Rattle.chains.specs.Index.{index_words};
 ghost use Rattle.reader.specs.Fed.{more_to_read, read_on};
 ghost use Rattle.reader.specs.Feed.{BeginGives, FeedGives, FinishGives, whole_at};
@@ -40,18 +40,48 @@ pub fn begin() -> Reader
         row: 0,
         count: 0,
         gives: Gives::Nothing,
-        refusal: None,
+        refusal: 0,
         place: 0,
     }
 }
 
 // Whether another byte is read: none was refused, one is there, and the output has room for what it can give.
-#[tactic(auto, using(choice::specs::Tests::tests, modes::specs::Moves::refused_test), unfolding(crate::specs::Fed::more_to_read))]
-fn more(refusal: Option<TextRefusal>, at: usize, end: usize, written: usize, out: usize) -> bool
+#[tactic(auto, using(choice::specs::Tests::tests), unfolding(crate::specs::Fed::more_to_read))]
+fn more(refusal: u8, at: usize, end: usize, written: usize, out: usize) -> bool
     requires { written ≤ out }
-    ensures { result ≡ more_to_read (text_of refusal) at end written out }
+    ensures { result ≡ more_to_read refusal at end written out }
 {
-    refusal.is_none() && at < end && OUTPUT <= out - written
+    refusal == 0 && at < end && OUTPUT <= out - written
+}
+
+// The refusal with a number, where one has it.
+#[tactic(auto, unfolding(limits::specs::Number::Laws::text_at))]
+fn refusal_of(number: u8) -> Option<TextRefusal>
+    ensures { result ≡ text_at number }
+{
+    match number {
+        limits::MISPLACED => Some(TextRefusal::Misplaced),
+        limits::NOT_CHAR => Some(TextRefusal::NotChar),
+        limits::DOCTYPE => Some(TextRefusal::Doctype),
+        limits::INSTRUCTION => Some(TextRefusal::Instruction),
+        limits::CDATA => Some(TextRefusal::Cdata),
+        limits::CHAR_REFERENCE => Some(TextRefusal::CharReference),
+        limits::OTHER_ENTITY => Some(TextRefusal::OtherEntity),
+        limits::LONG_NAME => Some(TextRefusal::LongName),
+        limits::MANY_ATTRIBUTES => Some(TextRefusal::ManyAttributes),
+        limits::TWICE => Some(TextRefusal::Twice),
+        limits::OTHER_END => Some(TextRefusal::OtherEnd),
+        limits::NESTED => Some(TextRefusal::Nested),
+        limits::OTHER_ENCODING => Some(TextRefusal::OtherEncoding),
+        limits::FOREIGN_NAME => Some(TextRefusal::ForeignName),
+        limits::UNENDED => Some(TextRefusal::Unended),
+        limits::SCANT => Some(TextRefusal::Scant),
+        limits::READER_STOPPED => Some(TextRefusal::ReaderStopped),
+        limits::MANY_NAMES => Some(TextRefusal::ManyNames),
+        limits::LONG_LISTED => Some(TextRefusal::LongListed),
+        limits::NOT_NAME => Some(TextRefusal::NotName),
+        _ => None,
+    }
 }
 
 // Turn by turn.
@@ -66,7 +96,7 @@ fn read_on(
     requires { index_words ≤ length index.now }
     ensures { (record { reader = result.reader; at = result.taken; room = room.new; out = out.new; written = result.written }
         ≡ read_on names.now index.now text.now reader room.old out.old)
-        × (result.refusal ≡ result.reader.refusal) }
+        × (result.refusal ≡ text_at result.reader.refusal) }
 {
     let marks = chars::marks::MARKS;
     let mut r = reader;
@@ -83,7 +113,7 @@ fn read_on(
         reader: r,
         taken: at,
         written,
-        refusal: r.refusal,
+        refusal: refusal_of(r.refusal),
     }
 }
 
@@ -120,7 +150,7 @@ pub fn feed(
     let Some(needed) = room.first_chunk_mut::<{ slots::ROOM }>() else {
         return untouched(reader, TextRefusal::Scant);
     };
-    if reader.refusal.is_some() {
+    if reader.refusal != 0 {
         return untouched(reader, TextRefusal::ReaderStopped);
     }
     read_on(reader, text, names, index, needed, out)
@@ -135,11 +165,11 @@ fn whole(place: u16, mode: Mode) -> bool
 }
 
 // The end of the text: no refusal where it is a whole document.
-#[tactic(auto, using(choice::specs::Tests::tests, modes::specs::Moves::refused_test), unfolding(crate::specs::Feed::finish_answer))]
+#[tactic(auto, using(choice::specs::Tests::tests), unfolding(crate::specs::Feed::finish_answer))]
 pub fn finish(reader: Reader) -> Finished
     ensures { FinishGives reader result }
 {
-    if reader.refusal.is_some() {
+    if reader.refusal != 0 {
         return Finished {
             reader,
             refusal: Some(TextRefusal::ReaderStopped),

@@ -150,8 +150,8 @@ module _ (N X t : List ℕ) (r : Reader) (R : List ℕ) (es : List Ev) (h : Text
 
   by_whole : (b : Bool) → whole_at r.place r.mode ≡ b → text_of (finish_answer r).refusal ≡ when b 0 unended
   unfolding finish_answer when
-  by_whole true e = ap (λ (z : Finished). text_of z.refusal) (when_true _ _ _ (eq-eqb (text_of r.refusal) 0 h.unrefused) ∙ when_true _ _ _ e)
-  by_whole false e = ap (λ (z : Finished). text_of z.refusal) (when_true _ _ _ (eq-eqb (text_of r.refusal) 0 h.unrefused) ∙ when_false _ _ _ e)
+  by_whole true e = ap (λ (z : Finished). text_of z.refusal) (when_true _ _ _ (eq-eqb r.refusal 0 h.unrefused) ∙ when_true _ _ _ e)
+  by_whole false e = ap (λ (z : Finished). text_of z.refusal) (when_true _ _ _ (eq-eqb r.refusal 0 h.unrefused) ∙ when_false _ _ _ e)
 
   whole_none : text_of (finish_answer r).refusal ≡ 0 → whole_at r.place r.mode ≡ true
   unfolding when
@@ -173,15 +173,15 @@ module _ (N X t : List ℕ) (r : Reader) (R : List ℕ) (es : List Ev) (h : Text
   -- 44 is the only other answer, and stops the reader
   pub finish_stops :
       (text_of (finish_answer r).refusal ≡ 0 → ⊥)
-      → (text_of (finish_answer r).refusal ≡ unended) × (text_of (finish_answer r).reader.refusal ≡ unended)
+      → (text_of (finish_answer r).refusal ≡ unended) × ((finish_answer r).reader.refusal ≡ unended)
   unfolding finish_answer when
   finish_stops wrong = go (whole_at r.place r.mode) refl
     where
-      go : (b : Bool) → whole_at r.place r.mode ≡ b → (text_of (finish_answer r).refusal ≡ unended) × (text_of (finish_answer r).reader.refusal ≡ unended)
+      go : (b : Bool) → whole_at r.place r.mode ≡ b → (text_of (finish_answer r).refusal ≡ unended) × ((finish_answer r).reader.refusal ≡ unended)
       go true e = absurd (wrong (by_whole true e))
       go false e =
-          let z = when_true _ _ _ (eq-eqb (text_of r.refusal) 0 h.unrefused) ∙ when_false _ _ _ e in
-          (by_whole false e, ap (λ (a : Finished). text_of a.reader.refusal) z)
+          let z = when_true _ _ _ (eq-eqb r.refusal 0 h.unrefused) ∙ when_false _ _ _ e in
+          (by_whole false e, ap (λ (a : Finished). a.reader.refusal) z)
 
   pub finish_either : (text_of (finish_answer r).refusal ≡ 0) ⊎ (text_of (finish_answer r).refusal ≡ unended)
   unfolding when

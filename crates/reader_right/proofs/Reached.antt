@@ -20,7 +20,6 @@ use Rattle.xml.specs.Limited.{bounds}
 use Rattle.reading.specs.Cut.{cut_anywhere, onward}
 use Rattle.names.specs.Number.{number_of}
 use Rattle.text_right.specs.Marked.{marks_table}
-use Rattle.limits.specs.Number.{text_of}
 use Rattle.modes.specs.declared.Gives.TheVariants as gives
 use Rattle.modes.specs.declared.Reader.{Reader}
 use Rattle.modes.specs.Moves.{open_at}
@@ -42,7 +41,7 @@ use Rattle.reader_right.specs.Counted.{Counted}
 use Rattle.reader_right.proofs.Emits.{emits, emits_none}
 
 -- where a byte is refused nothing is given
-refused_none : {r x : Reader} → Placed r x → 0 < text_of x.refusal → x.gives ≡ gives.Nothing
+refused_none : {r x : Reader} → Placed r x → 0 < x.refusal → x.gives ≡ gives.Nothing
 refused_none (Placed.still e f) l = e
 refused_none (Placed.remarked e z f) l = absurd (omega arith)
 refused_none (Placed.deeper e z m f k) l = absurd (omega arith)
@@ -68,7 +67,7 @@ module _ (N X t : List ℕ) (k : State) where
   pub data Reached (out : List ℕ) (g : Going) : Type 0 where
     on :
         (es : List Ev)
-        → text_of g.reader.refusal ≡ 0
+        → g.reader.refusal ≡ 0
         → run bounds (take g.at t) k ≡ stands es (state_of g.reader g.room)
         → Sound g.reader g.room
         → Counted (number_of N X) g.room (open_at g.reader.place)
@@ -76,10 +75,10 @@ module _ (N X t : List ℕ) (k : State) where
         → Reached out g
     stops :
         (es : List Ev) (b : ℕ) (w : List ℕ)
-        → 0 < text_of g.reader.refusal
+        → 0 < g.reader.refusal
         → length g.room ≡ 18_496
         → drop g.at t ≡ b ∷ w
-        → run bounds (take g.at t ++ (b ∷ [])) k ≡ stopped es (text_of g.reader.refusal) (b ∷ [])
+        → run bounds (take g.at t ++ (b ∷ [])) k ≡ stopped es g.reader.refusal (b ∷ [])
         → Wrote out (records_in (number_of N X) es) g.out g.written
         → Reached out g
 
@@ -91,7 +90,7 @@ module _ (N X t : List ℕ) (k : State) where
         (ok : Sound g.reader g.room)
         (numbers : Counted f g.room (open_at g.reader.place))
         (wrote : Wrote out (records_in f es) g.out g.written)
-        (more : More (text_of g.reader.refusal) g.at (length t) g.written (length g.out))
+        (more : More g.reader.refusal g.at (length t) g.written (length g.out))
       where
         T : Turned
         T = turned marks_table g.reader t g.at g.room
@@ -108,7 +107,7 @@ module _ (N X t : List ℕ) (k : State) where
         spare = omega (arith, more.room, wrote_long wrote, wrote.fits)
 
         -- where a byte is refused the room is as the turn left it
-        still_long : 0 < text_of T.reader.refusal → length (emitted N X T.reader T.room g.out g.written).room ≡ 18_496
+        still_long : 0 < T.reader.refusal → length (emitted N X T.reader T.room g.out g.written).room ≡ 18_496
         unfolding T emitted emitted_by
         still_long z =
             subst (λ h. length (emitted_by h N X T.reader.place T.room g.out g.written).room ≡ 18_496) (sym (refused_none placed z))
@@ -144,7 +143,7 @@ module _ (N X t : List ℕ) (k : State) where
             ∙ ap (λ u. run bounds u k) (append_assoc (take g.at t) v (b ∷ []))
             ∙ behind (v ++ (b ∷ []))
             ∙ ap (given es) r
-            ∙ ap (λ fs. stopped fs (text_of T.reader.refusal) (b ∷ [])) (append-nil es))
+            ∙ ap (λ fs. stopped fs T.reader.refusal (b ∷ [])) (append-nil es))
             (subst (λ bs. Wrote out bs E.out E.written) (sym (records_more f es []) ∙ ap (records_in f) (append-nil es))
             (emits_none N X T.reader T.room out (records_in f es) g.out g.written wrote (refused_none placed z)))
 
@@ -154,7 +153,7 @@ module _ (N X t : List ℕ) (k : State) where
 
     pub reached_on : (g : Going) → Reached out g → goes_on t g ≡ true → Reached out (advanced N X marks_table t g)
     reached_on g (Reached.on es z e ok numbers wrote) more = reached_turn g es e ok numbers wrote (more_is _ _ _ _ _ more)
-    reached_on g (Reached.stops es b w z l j e wrote) more = absurd (omega (arith, (more_is (text_of g.reader.refusal) _ _ _ _ more).unrefused))
+    reached_on g (Reached.stops es b w z l j e wrote) more = absurd (omega (arith, (more_is g.reader.refusal _ _ _ _ more).unrefused))
 
     pub reached_for : (n : ℕ) (g : Going) → Reached out g → Reached out (read_for n N X marks_table t g)
     unfolding read_for
@@ -179,7 +178,7 @@ module _ (N X t : List ℕ) where
 
   -- as many turns as there are bytes are enough
   pub read_ended :
-      (k : ℕ) (g : Going) → g.at ≤ length t → (text_of g.reader.refusal ≡ 0 → length t < g.at + k) → goes_on t (read_for k N X marks_table t g) ≡ false
+      (k : ℕ) (g : Going) → g.at ≤ length t → (g.reader.refusal ≡ 0 → length t < g.at + k) → goes_on t (read_for k N X marks_table t g) ≡ false
   unfolding read_for advanced advanced_by
   read_ended zero g l h = ended g (λ e. let m = more_is _ _ _ _ _ e in let z = h m.unrefused in let u = m.there in omega arith)
   read_ended (suc k) g l h =
@@ -191,9 +190,7 @@ module _ (N X t : List ℕ) where
       on_within : g.at < length t → (advanced N X marks_table t g).at ≤ length t
       on_within u = (turned_within marks_table g.reader t g.at g.room l).1
 
-      on_enough :
-          g.at < length t → text_of g.reader.refusal ≡ 0 → text_of (advanced N X marks_table t g).reader.refusal ≡ 0
-          → length t < (advanced N X marks_table t g).at + k
+      on_enough : g.at < length t → g.reader.refusal ≡ 0 → (advanced N X marks_table t g).reader.refusal ≡ 0 → length t < (advanced N X marks_table t g).at + k
       on_enough u y z =
           let n = h y in
           omega (arith, turned_on marks_table g.reader t g.at g.room l u z)

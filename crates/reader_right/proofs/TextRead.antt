@@ -25,11 +25,13 @@ use Rattle.xml.specs.Limited.{bounds}
 use Rattle.reading.specs.Cut.{cut_anywhere, onward}
 use Rattle.names.specs.Number.{number_of}
 use Rattle.limits.specs.Number.{text_of}
+use Rattle.limits.specs.Number.Laws.{text_at}
 use Rattle.modes.specs.declared.Reader.{Reader}
 use Rattle.modes.specs.Moves.{open_at}
 use Rattle.slots.specs.Slots.{room_needed}
 use Rattle.slots.specs.Slots.Laws.{room_is}
 use Rattle.reader.specs.Fed.{Going, fresh_reader, more_to_read, goes_on, read_for, begun_with, read_on}
+use Rattle.reader.proofs.Told.{read_told}
 use Rattle.reader.specs.Feed.{Came, too_scant, untouched, throughout, feed_answer, feed_scant, feed_read, enough}
 use Rattle.text_right.specs.Marked.{table_is}
 use Rattle.text_right.specs.Stands.{state_of}
@@ -73,7 +75,7 @@ module _ (N X t : List ℕ) (r : Reader) (R : List ℕ) (es : List Ev) (u out : 
     refused :
         (fs : List Ev) (b : ℕ) (w : List ℕ)
         → 0 < text_of c.refusal
-        → text_of c.reader.refusal ≡ text_of c.refusal
+        → c.reader.refusal ≡ text_of c.refusal
         → drop c.taken u ≡ b ∷ w
         → run bounds ((t ++ take c.taken u) ++ (b ∷ [])) State.start ≡ stopped (es ++ fs) (text_of c.refusal) (b ∷ [])
         → Kept fs c
@@ -114,7 +116,7 @@ module _ (N X t : List ℕ) (r : Reader) (R : List ℕ) (es : List Ev) (u out : 
           (read_within N X u (suc (length u)) (begun_with r (used R) out) (omega arith))
 
       -- where nothing was refused, the block is taken or the output is full
-      why_ended : text_of g.reader.refusal ≡ 0 → g.at ≤ length u → g.written ≤ length out → length g.out ≡ length out
+      why_ended : g.reader.refusal ≡ 0 → g.at ≤ length u → g.written ≤ length out → length g.out ≡ length out
           → (g.at ≡ length u) ⊎ (length out < g.written + 16)
       unfolding more_to_read
       why_ended z inside most same = go (leb (length u) g.at) (leb 16 (length g.out - g.written)) refl refl
@@ -137,12 +139,16 @@ module _ (N X t : List ℕ) (r : Reader) (R : List ℕ) (es : List Ev) (u out : 
             length-append g.room (drop room_needed R)
             ∙ omega (arith, length-drop room_needed R, room_is, (enough (length R) (length X) (length out) lent).room')
 
+      -- its refusal has the number that the answer's has
+      told : text_of (text_at g.reader.refusal) ≡ g.reader.refusal
+      told = read_told N X u r (used R) out h.unrefused
+
       by_reached : Reached N X u (state_of r (used R)) out g → FeedCame (throughout R g)
       unfolding given
       by_reached (on fs z e ok numbers wrote) =
           let S = g.room ++ drop room_needed R in
           let l = ok.kept.long in
-          went fs z
+          went fs (told ∙ z)
           (record {
             unrefused = z;
             reads = behind (take g.at u) ∙ ap (given es) e ∙ ap (λ Q. stands (es ++ fs) (state_of g.reader Q)) (sym (used_is l));
@@ -152,8 +158,11 @@ module _ (N X t : List ℕ) (r : Reader) (R : List ℕ) (es : List Ev) (u out : 
           (why_ended z within wrote.fits (wrote_long wrote))
           (record { wrote = wrote; past = past_is l; same_length = long_is l })
       by_reached (stops fs b w z l j e wrote) =
-          refused fs b w z refl j
-          (ap (λ v. run bounds v State.start) (append_assoc t (take g.at u) (b ∷ [])) ∙ behind (take g.at u ++ (b ∷ [])) ∙ ap (given es) e)
+          refused fs b w (subst (λ n. 0 < n) (sym told) z) (sym told) j
+          (ap (λ v. run bounds v State.start) (append_assoc t (take g.at u) (b ∷ []))
+          ∙ behind (take g.at u ++ (b ∷ []))
+          ∙ ap (given es) e
+          ∙ ap (λ n. stopped (es ++ fs) n (b ∷ [])) (sym told))
           (record { wrote = wrote; past = past_is l; same_length = long_is l })
 
       enough_came : FeedCame (feed_answer N X u r R out)

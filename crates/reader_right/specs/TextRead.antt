@@ -11,7 +11,6 @@ use Rattle.xml.specs.Grammar.{Ev}
 use Rattle.xml.specs.Machine.{State, stands, run}
 use Rattle.xml.specs.Limited.{bounds}
 use Rattle.names.specs.Number.{number_of}
-use Rattle.limits.specs.Number.{text_of}
 use Rattle.modes.specs.declared.Reader.{Reader}
 use Rattle.modes.specs.Moves.{open_at}
 use Rattle.slots.specs.Slots.{room_needed}
@@ -24,7 +23,7 @@ abbrev pub used : List ℕ → List ℕ
 used R = take room_needed R
 
 pub record TextRead (N X t : List ℕ) (r : Reader) (R : List ℕ) (es : List Ev) : Type 0 where
-  pub unrefused : text_of r.refusal ≡ 0
+  pub unrefused : r.refusal ≡ 0
   pub reads : run bounds t State.start ≡ stands es (state_of r (used R))
   pub sound : Sound r (used R)
   pub counted : Counted (number_of N X) (used R) (open_at r.place)

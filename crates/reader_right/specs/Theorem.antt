@@ -93,7 +93,7 @@ pub record Refuses (N X t u bs : List ℕ) (c : answered.Fed) (out' : List ℕ) 
   pub earliest : Earliest (stopped_at t u c) b
   pub sentence : ((text_of c.refusal ≡ 30) × ((q : ℕ) → Refusal bounds q (stopped_at t u c) b → ⊥)) ⊎ Refusal bounds (text_of c.refusal) (stopped_at t u c) b
   pub events : Events N X (stopped_at t u c) (bs ++ take c.written out')
-  pub stops : text_of c.reader.refusal ≡ text_of c.refusal
+  pub stops : c.reader.refusal ≡ text_of c.refusal
 
 pub record Promised (N X : List ℕ) : Type 0 where
   -- what is written so far are the events so far, and the text so far begins a document or is spent
@@ -104,7 +104,7 @@ pub record Promised (N X : List ℕ) : Type 0 where
       → (text_of f.refusal ≡ 0) ↔ ((es : List Ev) × Document bounds t es)
   pub unended_else :
       {t R bs : List ℕ} {r : Reader} {f : Finished} → Fed N X t r R bs → FinishGives r f → (text_of f.refusal ≡ 0 → ⊥)
-      → (text_of f.refusal ≡ 44) × (text_of f.reader.refusal ≡ 44)
+      → (text_of f.refusal ≡ 44) × (f.reader.refusal ≡ 44)
   -- and after the events of a document no session refuses its finish
   pub never_unfinished :
       {t R bs : List ℕ} {r : Reader} {es : List Ev} (q : Query) (n : ℕ) → Fed N X t r R bs → Document bounds t es
@@ -140,7 +140,7 @@ pub record Promised (N X : List ℕ) : Type 0 where
       {S' out' : List ℕ} {r : Reader} {c : answered.Fed} (u S out : List ℕ)
       → FeedGives N X u r S out c S' out'
       → too_scant (length S) (length X) (length out) ≡ false
-      → (text_of r.refusal ≡ 0 → ⊥)
+      → (r.refusal ≡ 0 → ⊥)
       → (text_of c.refusal ≡ 46) × (c.reader ≡ r) × (c.taken ≡ 0) × (c.written ≡ 0) × (S' ≡ S) × (out' ≡ out)
   -- by an index that a build made the numbers are the first places in the list
   pub numbers_first :

@@ -5,32 +5,32 @@
 --   read_nothing, read_some      a read that gave nothing, and one that gave bytes
 --
 -- What is large is given explicitly. Assumes nothing.
-use Rattle.std.specs.Prelude.{ℕ, ◌+◌, ◌-◌, ◌<◌, ◌≡◌, refl, true, false, List, ◌++◌, Option, None, eqb, length, take, drop}
-use Rattle.std.proofs.Common.{arith, sym, ap, ◌∙◌, eqb-true, eq-eqb, ne_eqb, length-drop, length-take-le, take_at}
+use Rattle.std.specs.Prelude.{ℕ, ◌+◌, ◌-◌, ◌<◌, ◌≡◌, refl, true, false, List, ◌++◌, eqb, length, take, drop}
+use Rattle.std.proofs.Common.{arith, sym, ap, ◌∙◌, eqb-true, eq-eqb, ne_eqb, length-drop, length-take-le}
 use Rattle.std.proofs.Math.Nat.{sub-zero}
-use Rattle.std.proofs.Math.Seq.{take-add}
-use Rattle.std.specs.List.{copy_within}
+use Rattle.std.proofs.Math.Seq.{take-add, length-sets}
 use Rattle.choice.specs.When.{when, when_yes, when_no, never}
-use Rattle.limits.specs.declared.Refusal.{Refusal}
-use Rattle.limits.specs.Number.{fault_of}
+use Rattle.lines.specs.Put.{Put}
+use Rattle.lines.proofs.Put.Laws.{put_taken}
 use Rattle.system.specs.declared.File.{File}
 use Rattle.system.specs.Marks.{ReadAt}
 use Rattle.reads.specs.declared.State.{State}
 use Rattle.reads.specs.State.{unread, UnreadWithin, leftover_of, ReadMore}
 
 module _ (file : File) (s : State) (input moved_down input' : List ℕ) (r : ℕ) (w : UnreadWithin s (length input))
-    (moved : moved_down ≡ copy_within input s.from s.end 0) (long : length moved_down ≡ length input)
-    (got : ReadAt file (s.end - s.from) moved_down input' r) (room : s.end - s.from < length input) where
+    (moved : Put input 0 (unread s input) moved_down (s.end - s.from)) (got : ReadAt file (s.end - s.from) moved_down input' r)
+    (room : s.end - s.from < length input) where
   abbrev left : ℕ
   left = s.end - s.from
 
   abbrev bytes : List ℕ
   bytes = take r (drop left input')
 
+  long : length moved_down ≡ length input
+  long = ap length moved.text ∙ length-sets input 0 (unread s input)
+
   left_over : take left moved_down ≡ unread s input
-  left_over =
-      ap (take left) moved
-      ∙ take_at (unread s input) _ left (length-take-le left (drop s.from input) (omega (arith, w.inside, length-drop s.from input)))
+  left_over = put_taken moved (omega (arith, w.inside))
 
   so_many : length bytes ≡ r
   so_many = length-take-le r (drop left input') (omega (arith, got.within, length-drop left input'))
@@ -42,15 +42,14 @@ module _ (file : File) (s : State) (input moved_down input' : List ℕ) (r : ℕ
       ∙ ap (λ (x : List ℕ). x ++ bytes) (got.kept ∙ left_over)
 
   pub read_so :
-      (x : Option Refusal) → fault_of x ≡ when (eqb r 0) (leftover_of left) 0 →
-      ReadMore file s input
-      (record { session = s.session; from = 0; end = left + r; taken = s.taken; refusal = x; ended = eqb r 0; written = s.written }) input'
-  read_so x e =
+      (n x : ℕ) → n ≡ left + r → x ≡ when (eqb r 0) (leftover_of left) 0 →
+      ReadMore file s input (record { session = s.session; from = 0; end = n; taken = s.taken; refusal = x; ended = eqb r 0; written = s.written }) input'
+  read_so n x so e =
       record {
         bytes = bytes;
         given = got.given;
-        behind = behind;
-        within = record { forward = omega arith; inside = got.within };
+        behind = ap (λ (k : ℕ). take (k - 0) input') so ∙ behind;
+        within = record { forward = omega arith; inside = omega (arith, so, got.within) };
         session_same = refl;
         taken_same = refl;
         written_same = refl;
@@ -60,7 +59,7 @@ module _ (file : File) (s : State) (input moved_down input' : List ℕ) (r : ℕ
       }
 
   pub read_nothing :
-      r ≡ 0 → (x : Option Refusal) → fault_of x ≡ leftover_of left →
+      r ≡ 0 → (x : ℕ) → x ≡ leftover_of left →
       ReadMore file s input (record { session = s.session; from = 0; end = left; taken = s.taken; refusal = x; ended = true; written = s.written }) input'
   read_nothing z x e =
       let all : left - 0 ≡ left + r - 0 = omega arith in
@@ -73,14 +72,14 @@ module _ (file : File) (s : State) (input moved_down input' : List ℕ) (r : ℕ
         taken_same = refl;
         written_same = refl;
         ended_so = sym (eq-eqb (length bytes) 0 (so_many ∙ z));
-        refused_so = when_yes true (fault_of x) (leftover_of left) 0 refl e;
+        refused_so = when_yes true x (leftover_of left) 0 refl e;
         over = λ t. got.over z (omega (arith, room, long));
       }
 
   pub read_some :
       (r ≡ 0 → ⊥) →
       ReadMore file s input
-      (record { session = s.session; from = 0; end = left + r; taken = s.taken; refusal = None; ended = false; written = s.written }) input'
+      (record { session = s.session; from = 0; end = left + r; taken = s.taken; refusal = 0; ended = false; written = s.written }) input'
   read_some z =
       record {
         bytes = bytes;

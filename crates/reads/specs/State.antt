@@ -8,7 +8,6 @@
 -- Assumes nothing. NOT here: what a block of events makes of it (crate block, Worked), what both come to together (crate turns, Turns).
 use Rattle.std.specs.Prelude.{ℕ, ◌-◌, ◌≤◌, ◌≡◌, true, List, ◌++◌, eqb, length, take, drop}
 use Rattle.choice.specs.When.{when}
-use Rattle.limits.specs.Number.{fault_of}
 use Rattle.meaning.specs.Refusals.{bad_record}
 use Rattle.system.specs.declared.File.{File}
 use Rattle.system.specs.Marks.{ReadGave, ReadOver}
@@ -35,5 +34,5 @@ pub record ReadMore (file : File) (s : State) (input : List ℕ) (s' : State) (i
   pub taken_same : s'.taken ≡ s.taken
   pub written_same : s'.written ≡ s.written
   pub ended_so : s'.ended ≡ eqb (length bytes) 0
-  pub refused_so : fault_of s'.refusal ≡ when s'.ended (leftover_of (s.end - s.from)) 0
+  pub refused_so : s'.refusal ≡ when s'.ended (leftover_of (s.end - s.from)) 0
   pub over : s'.ended ≡ true → ReadOver file

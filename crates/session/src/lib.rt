@@ -100,13 +100,17 @@ fn fresh(plan: Plan) -> Session
 }
 
 // Whether a session can begin: "15 comes directly after 1 and before all others".
+#[tactic(auto, using(crate::specs::Begin::Laws::started), unfolding(crate::specs::Begin::said, query::specs::Answer::said, choice::specs::When::when))]
 fn check(query: &[u8], elements: &[u8], nodes: &[u8]) -> Result<(), StartFault>
     ensures { said result ≡ start_answer query.now elements.now nodes.now }
 {
     if lent::check_room(elements.len(), nodes.len()).is_err() {
         return Err(StartFault::ShortRoom);
     }
-    query::check(query).map_err(StartFault::Query)
+    match query::check(query) {
+        Ok(()) => Ok(()),
+        Err(fault) => Err(StartFault::Query(fault)),
+    }
 }
 
 // A session for a query. Nothing is asked of the content of the lent room, and none of it is read or written.

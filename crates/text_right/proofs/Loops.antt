@@ -7,7 +7,7 @@
 --   none_walk             a mode without a loop
 --
 -- Assumes nothing.
-use Rattle.std.specs.Prelude.{ℕ, ◌+◌, ◌<◌, ◌≡◌, true, false, eqb, leb, length, get_or, set, Option, None}
+use Rattle.std.specs.Prelude.{ℕ, ◌+◌, ◌<◌, ◌≡◌, true, false, eqb, leb, length, get_or, set}
 use Rattle.std.proofs.Common.{arith, sym, ◌∙◌, eqb-true, leb-false}
 use Rattle.std.proofs.Math.Path.{refl, ap}
 use mathlib.Core.List.{List, [], ◌∷◌, ◌++◌}
@@ -16,7 +16,6 @@ use Rattle.xml.specs.Class.{in_class}
 use Rattle.chars.specs.Marks.{marked, span}
 use Rattle.slots.specs.Slots.{base_of, length_in}
 use Rattle.slots.specs.Copied.{Copied, copied, name_mark, Agreed, agreed}
-use Rattle.limits.specs.declared.TextRefusal.{TextRefusal}
 use Rattle.modes.specs.declared.Gives.{Gives}
 use Rattle.modes.specs.declared.Gives.TheVariants as gives
 use Rattle.modes.specs.declared.Reader.{Reader}
@@ -28,7 +27,7 @@ use Rattle.walk.specs.Turn.{here_after}
 use Rattle.text_right.specs.Marked.{marks_table, every, agrees, same, low, mark_is}
 use Rattle.text_right.proofs.Quiet.{still, Quiet, done, byte}
 
-abbrev pub noted : Reader → Gives → Option TextRefusal → ℕ → Reader
+abbrev pub noted : Reader → Gives → ℕ → ℕ → Reader
 noted r g z n = record { mode = r.mode; back = r.back; n = n; row = r.row; count = r.count; gives = g; refusal = z; place = r.place }
 
 pub record Walks (r : Reader) (R t : List ℕ) (at : ℕ) (w : Copied) : Type 0 where
@@ -43,16 +42,15 @@ pub stays : (r : Reader) (R t : List ℕ) (at : ℕ) → Walks r R t at (record 
 stays r R t at = record { over = []; rest = t; split = refl; far = let z : at ≡ at + 0 = omega arith in z; quiet = done }
 
 module _ (r : Reader) (R : List ℕ) (mark : ℕ)
-    (f : (g : Gives) (z : Option TextRefusal) (b : ℕ) → marked marks_table b mark ≡ true → tick marks_table (noted r g z r.n) b R ≡ kept (still r) R) where
+    (f : (g : Gives) (z b : ℕ) → marked marks_table b mark ≡ true → tick marks_table (noted r g z r.n) b R ≡ kept (still r) R) where
   pub skips_walk :
-      (t : List ℕ) (g : Gives) (z : Option TextRefusal) (at : ℕ)
-      → Walks (noted r g z r.n) R t at (record { at = at + span marks_table mark t; n = r.n; room = R })
+      (t : List ℕ) (g : Gives) (z at : ℕ) → Walks (noted r g z r.n) R t at (record { at = at + span marks_table mark t; n = r.n; room = R })
   unfolding span
   skips_walk [] g z at = record { over = []; rest = []; split = refl; far = refl; quiet = done }
   skips_walk (b ∷ t) g z at =
       when_known (λ n. Walks (noted r g z r.n) R (b ∷ t) at (record { at = at + n; n = r.n; room = R })) (marked marks_table b mark) _ _
       (λ e.
-      let w = skips_walk t gives.Nothing None (at + 1) in
+      let w = skips_walk t gives.Nothing 0 (at + 1) in
       record {
         over = b ∷ w.over;
         rest = w.rest;
@@ -63,9 +61,9 @@ module _ (r : Reader) (R : List ℕ) (mark : ℕ)
       (λ e. record { over = []; rest = b ∷ t; split = refl; far = refl; quiet = done })
 
 module _ (r : Reader) (s : ℕ)
-    (f : (g : Gives) (z : Option TextRefusal) (n b : ℕ) (R : List ℕ) → marked marks_table b name_mark ≡ true → n < 64
+    (f : (g : Gives) (z n b : ℕ) (R : List ℕ) → marked marks_table b name_mark ≡ true → n < 64
     → tick marks_table (noted r g z n) b R ≡ kept (spell_on r r.mode r.row (n + 1)) (set R (base_of s + n) b)) where
-  pub copies_walk : (t : List ℕ) (g : Gives) (z : Option TextRefusal) (n at : ℕ) (R : List ℕ) → Walks (noted r g z n) R t at (copied marks_table R s n at t)
+  pub copies_walk : (t : List ℕ) (g : Gives) (z n at : ℕ) (R : List ℕ) → Walks (noted r g z n) R t at (copied marks_table R s n at t)
   unfolding copied
   copies_walk [] g z n at R = stays (noted r g z n) R [] at
   copies_walk (b ∷ t) g z n at R =
@@ -74,7 +72,7 @@ module _ (r : Reader) (s : ℕ)
       when_known (Walks (noted r g z n) R (b ∷ t) at) (leb 64 n) _ _
       (λ k. stays (noted r g z n) R (b ∷ t) at)
       (λ k.
-      let w = copies_walk t gives.Nothing None (n + 1) (at + 1) (set R (base_of s + n) b) in
+      let w = copies_walk t gives.Nothing 0 (n + 1) (at + 1) (set R (base_of s + n) b) in
       record {
         over = b ∷ w.over;
         rest = w.rest;
@@ -85,9 +83,9 @@ module _ (r : Reader) (s : ℕ)
       (λ e. stays (noted r g z n) R (b ∷ t) at)
 
 module _ (r : Reader) (R : List ℕ) (s : ℕ)
-    (f : (g : Gives) (z : Option TextRefusal) (n b : ℕ) → n < length_in R s → b ≡ get_or R (base_of s + n) 0
+    (f : (g : Gives) (z n b : ℕ) → n < length_in R s → b ≡ get_or R (base_of s + n) 0
     → tick marks_table (noted r g z n) b R ≡ kept (spell_on r r.mode r.row (n + 1)) R) where
-  pub agrees_walk : (t : List ℕ) (g : Gives) (z : Option TextRefusal) (n at : ℕ) → Walks (noted r g z n) R t at (beside (agreed R s n at t) R)
+  pub agrees_walk : (t : List ℕ) (g : Gives) (z n at : ℕ) → Walks (noted r g z n) R t at (beside (agreed R s n at t) R)
   unfolding agreed
   agrees_walk [] g z n at = stays (noted r g z n) R [] at
   agrees_walk (b ∷ t) g z n at =
@@ -96,7 +94,7 @@ module _ (r : Reader) (R : List ℕ) (s : ℕ)
       (λ e.
       when_known (λ (x : Agreed). Walks (noted r g z n) R (b ∷ t) at (beside x R)) (eqb b (get_or R (base_of s + n) 0)) _ _
       (λ k.
-      let w = agrees_walk t gives.Nothing None (n + 1) (at + 1) in
+      let w = agrees_walk t gives.Nothing 0 (n + 1) (at + 1) in
       record {
         over = b ∷ w.over;
         rest = w.rest;

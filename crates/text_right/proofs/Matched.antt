@@ -18,7 +18,6 @@ use Rattle.xml.specs.Class.{only, in_class, keep, derive, word}
 use Rattle.xml.specs.Grammar.{Ev}
 use Rattle.xml.specs.Machine.{Place, State, Outcome, refused, goes, settle}
 use Rattle.slots.specs.Slots.{name_in}
-use Rattle.limits.specs.Number.{text_of}
 use Rattle.modes.specs.declared.Reader.{Reader}
 use Rattle.modes.specs.Moves.{after_place}
 use Rattle.tags.specs.Markup.{Ticked}
@@ -26,8 +25,8 @@ use Rattle.text_right.specs.Stands.{names, place_of, state_of, evs_of}
 use Rattle.text_right.specs.Sound.{Inner, Sound}
 
 pub data Matches (o : Outcome) (x : Reader) (R : List ℕ) : Type 0 where
-  moves : text_of x.refusal ≡ 0 → o ≡ goes (evs_of x R) (state_of x R) → Sound x R → Matches o x R
-  stops : 0 < text_of x.refusal → o ≡ refused (text_of x.refusal) → Matches o x R
+  moves : x.refusal ≡ 0 → o ≡ goes (evs_of x R) (state_of x R) → Sound x R → Matches o x R
+  stops : 0 < x.refusal → o ≡ refused x.refusal → Matches o x R
 
 abbrev pub Ticks : Outcome → Ticked → Type 0
 Ticks o x = Matches o x.reader x.room

@@ -6,7 +6,7 @@
 --   tick_placed          so does a byte for a reader and its room that calls lead to
 --
 -- Assumes nothing.
-use Rattle.std.specs.Prelude.{ℕ, ◌+◌, ◌-◌, ◌≤◌, ◌<◌, ◌≡◌, Option, Bool, List, eqb, leb}
+use Rattle.std.specs.Prelude.{ℕ, ◌+◌, ◌-◌, ◌≤◌, ◌<◌, ◌≡◌, Bool, List, eqb, leb}
 use native.Mathlib.Omega.{arith}
 use Rattle.std.proofs.Math.Path.{refl, sym}
 use Rattle.std.proofs.Common.{◌∙◌}
@@ -14,8 +14,6 @@ use borrow.Author.Tests.{eqb-true, leb-true, leb-false}
 use Rattle.choice.specs.When.{when, when_either, when_known}
 use Rattle.meaning.specs.Limits.{depth_limit}
 use Rattle.meaning.proofs.Limits.Laws.{depth_is}
-use Rattle.limits.specs.declared.TextRefusal.{TextRefusal}
-use Rattle.limits.specs.Number.{text_of}
 use Rattle.modes.specs.declared.Mode.{Mode}
 use Rattle.modes.specs.declared.Mode.TheVariants as mode
 use Rattle.modes.specs.declared.Prolog.{Prolog}
@@ -43,14 +41,14 @@ after_none = refl
 pub data Placed (r x : Reader) : Type 0 where
   -- nothing is given, or the byte is refused
   still : x.gives ≡ gives.Nothing → x.place ≡ r.place → Placed r x
-  remarked : x.gives ≡ gives.Remark → text_of x.refusal ≡ 0 → x.place ≡ r.place → Placed r x
-  deeper : x.gives ≡ gives.Open → text_of x.refusal ≡ 0 → x.mode ≡ mode.Data → x.place ≡ r.place + 1 → r.place < 256 → Placed r x
-  higher : x.gives ≡ gives.Close → text_of x.refusal ≡ 0 → open_at x.place ≡ r.place - 1 → 1 ≤ r.place → r.place ≤ 256 → Placed r x
-  empty : x.gives ≡ gives.Both → text_of x.refusal ≡ 0 → open_at x.place ≡ r.place → r.place < 256 → Placed r x
+  remarked : x.gives ≡ gives.Remark → x.refusal ≡ 0 → x.place ≡ r.place → Placed r x
+  deeper : x.gives ≡ gives.Open → x.refusal ≡ 0 → x.mode ≡ mode.Data → x.place ≡ r.place + 1 → r.place < 256 → Placed r x
+  higher : x.gives ≡ gives.Close → x.refusal ≡ 0 → open_at x.place ≡ r.place - 1 → 1 ≤ r.place → r.place ≤ 256 → Placed r x
+  empty : x.gives ≡ gives.Both → x.refusal ≡ 0 → open_at x.place ≡ r.place → r.place < 256 → Placed r x
 
 module _ (r : Reader) where
   pub moved :
-      (m b : Mode) (n row count : ℕ) (refusal : Option TextRefusal)
+      (m b : Mode) (n row count refusal : ℕ)
       → Placed r (record { mode = m; back = b; n = n; row = row; count = count; gives = gives.Nothing; refusal = refusal; place = r.place })
   moved m b n row count refusal = Placed.still refl refl
 

@@ -11,7 +11,6 @@ use Rattle.std.specs.Prelude.{ℕ, suc, ◌<◌, ◌≡◌, refl, List, [], ◌�
 use Rattle.std.proofs.Common.{arith, ap, ◌∙◌, subst}
 use Rattle.xml.specs.Machine.{goes, step, Result, stopped, stands, given, next, run}
 use Rattle.xml.specs.Limited.{bounds}
-use Rattle.limits.specs.Number.{text_of}
 use Rattle.modes.specs.declared.Mode.{Mode}
 use Rattle.modes.specs.declared.Prolog.{Prolog}
 use Rattle.modes.specs.declared.Reader.{Reader}
@@ -96,7 +95,7 @@ quiet_step :
     → step bounds (state_of r R) b ≡ goes [] (state_of x S)
 unfolding evs_in
 quiet_step r x R S b s l e q =
-    tick_goes r R b s l (ap (λ (z : Ticked). text_of z.reader.refusal) e ∙ ap (λ (z : Reader). text_of z.refusal) q)
+    tick_goes r R b s l (ap (λ (z : Ticked). z.reader.refusal) e ∙ ap (λ (z : Reader). z.refusal) q)
     ∙ ap (λ (z : Ticked). goes (evs_in z.room z.reader.place z.reader.gives) (state_of z.reader z.room)) e
     ∙ ap (λ g. goes (evs_in S x.place g) (state_of x S)) (ap (λ (z : Reader). z.gives) q)
 
@@ -107,7 +106,7 @@ step_sound :
     → Sound x S
 step_sound r x R S b s l e q =
     subst (λ (z : Ticked). Sound z.reader z.room) e
-    (tick_sound r R b s l (ap (λ (z : Ticked). text_of z.reader.refusal) e ∙ ap (λ (z : Reader). text_of z.refusal) q))
+    (tick_sound r R b s l (ap (λ (z : Ticked). z.reader.refusal) e ∙ ap (λ (z : Reader). z.refusal) q))
 
 pub quiet_run :
     {r x : Reader} {R S u : List ℕ} (v : List ℕ) → Sound r R → Bytes u → Quiet r R u x S

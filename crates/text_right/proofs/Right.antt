@@ -10,7 +10,6 @@ use Rattle.std.specs.Prelude.{ℕ, ◌<◌, ◌≡◌, refl, List}
 use Rattle.std.proofs.Common.{arith}
 use Rattle.xml.specs.Machine.{Outcome, refused, goes, step}
 use Rattle.xml.specs.Limited.{bounds}
-use Rattle.limits.specs.Number.{text_of}
 use Rattle.modes.specs.declared.Mode.{Mode}
 use Rattle.modes.specs.declared.Mode.TheVariants as mode
 use Rattle.modes.specs.declared.Prolog.{Prolog}
@@ -93,15 +92,15 @@ unfolding tick
 tick_right r R b s l = in_right r R b s.kept l s.fits refl
 
 -- the same, as equations
-unfolded_goes : {o : Outcome} {x : Reader} {R : List ℕ} → text_of x.refusal ≡ 0 → Matches o x R → o ≡ goes (evs_of x R) (state_of x R)
+unfolded_goes : {o : Outcome} {x : Reader} {R : List ℕ} → x.refusal ≡ 0 → Matches o x R → o ≡ goes (evs_of x R) (state_of x R)
 unfolded_goes e (Matches.moves f g h) = g
 unfolded_goes e (Matches.stops f g) = absurd (omega arith)
 
-unfolded_sound : {o : Outcome} {x : Reader} {R : List ℕ} → text_of x.refusal ≡ 0 → Matches o x R → Sound x R
+unfolded_sound : {o : Outcome} {x : Reader} {R : List ℕ} → x.refusal ≡ 0 → Matches o x R → Sound x R
 unfolded_sound e (Matches.moves f g h) = h
 unfolded_sound e (Matches.stops f g) = absurd (omega arith)
 
-unfolded_stops : {o : Outcome} {x : Reader} {R : List ℕ} → 0 < text_of x.refusal → Matches o x R → o ≡ refused (text_of x.refusal)
+unfolded_stops : {o : Outcome} {x : Reader} {R : List ℕ} → 0 < x.refusal → Matches o x R → o ≡ refused x.refusal
 unfolded_stops e (Matches.moves f g h) = absurd (omega arith)
 unfolded_stops e (Matches.stops f g) = g
 
@@ -113,11 +112,11 @@ module _ (r : Reader) (R : List ℕ) (b : ℕ) (s : Sound r R) (l : b < 256) whe
   abbrev pub room : List ℕ
   room = (tick marks_table r b R).room
 
-  pub tick_goes : text_of next.refusal ≡ 0 → step bounds (state_of r R) b ≡ goes (evs_of next room) (state_of next room)
+  pub tick_goes : next.refusal ≡ 0 → step bounds (state_of r R) b ≡ goes (evs_of next room) (state_of next room)
   tick_goes e = unfolded_goes e (tick_right r R b s l)
 
-  pub tick_sound : text_of next.refusal ≡ 0 → Sound next room
+  pub tick_sound : next.refusal ≡ 0 → Sound next room
   tick_sound e = unfolded_sound e (tick_right r R b s l)
 
-  pub tick_stops : 0 < text_of next.refusal → step bounds (state_of r R) b ≡ refused (text_of next.refusal)
+  pub tick_stops : 0 < next.refusal → step bounds (state_of r R) b ≡ refused next.refusal
   tick_stops e = unfolded_stops e (tick_right r R b s l)

@@ -16,7 +16,6 @@ use borrow.Author.Tests.{eq-eqb, ne_eqb, leb-false}
 use Rattle.choice.specs.When.{when_known, when_true, when_false}
 use Rattle.xml.specs.Machine.{State, step, stopped, stands, given, next, run}
 use Rattle.xml.specs.Limited.{bounds}
-use Rattle.limits.specs.Number.{text_of}
 use Rattle.modes.specs.declared.Mode.TheVariants as mode
 use Rattle.modes.specs.declared.Prolog.TheVariants as prolog
 use Rattle.modes.specs.declared.Reader.{Reader}
@@ -53,17 +52,17 @@ module _ (r : Reader) (R : List ℕ) (e : r.mode ≡ mode.Prolog prolog.Start) (
 pub data Turns (k : State) (T : Turned) (at : ℕ) (t : List ℕ) : Type 0 where
   on :
       (v : List ℕ)
-      → text_of T.reader.refusal ≡ 0
+      → T.reader.refusal ≡ 0
       → drop at t ≡ v ++ drop T.at t
       → run bounds v k ≡ stands (evs_of T.reader T.room) (state_of T.reader T.room)
       → Sound T.reader T.room
       → Turns k T at t
   stops :
       (v w : List ℕ) (b : ℕ)
-      → 0 < text_of T.reader.refusal
+      → 0 < T.reader.refusal
       → drop at t ≡ v ++ drop T.at t
       → drop T.at t ≡ b ∷ w
-      → run bounds (v ++ (b ∷ [])) k ≡ stopped [] (text_of T.reader.refusal) (b ∷ [])
+      → run bounds (v ++ (b ∷ [])) k ≡ stopped [] T.reader.refusal (b ∷ [])
       → Turns k T at t
 
 -- one byte, at the place n of the text, behind the bytes v, after which the machine is in the state j
@@ -72,7 +71,7 @@ module _ (k j : State) (t v : List ℕ) (at n : ℕ) (e : drop at t ≡ v ++ dro
   unfolding run next ticked_at given
   ticked_right x l (Matches.moves z g h) =
       let b = get_or t n 0 in
-      let one = when_true (eqb (text_of x.reader.refusal) 0) (n + 1) n (eq-eqb _ 0 z) in
+      let one = when_true (eqb x.reader.refusal 0) (n + 1) n (eq-eqb _ 0 z) in
       Turns.on (v ++ (b ∷ [])) z
       (e
       ∙ ap (λ u. v ++ u) (drop-cons t n 0 l)
@@ -84,7 +83,7 @@ module _ (k j : State) (t v : List ℕ) (at n : ℕ) (e : drop at t ≡ v ++ dro
       h
   ticked_right x l (Matches.stops z g) =
       let b = get_or t n 0 in
-      let none = when_false (eqb (text_of x.reader.refusal) 0) (n + 1) n (ne_eqb (text_of x.reader.refusal) 0 (λ q. omega arith)) in
+      let none = when_false (eqb x.reader.refusal 0) (n + 1) n (ne_eqb x.reader.refusal 0 (λ q. omega arith)) in
       Turns.stops v (drop (suc n) t) b z (e ∙ ap (λ i. v ++ drop i t) (sym none)) (ap (λ i. drop i t) none ∙ drop-cons t n 0 l)
       (f (b ∷ []) ∙ ap (λ o. next o (run bounds []) (b ∷ [])) g)
 

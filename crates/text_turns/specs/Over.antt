@@ -11,7 +11,6 @@ use Rattle.std.proofs.Math.Path.{sym, ap}
 use mathlib.Core.List.{List, [], ◌++◌, append-nil, append_assoc}
 use Rattle.std.proofs.Math.Option.{none, some}
 use Rattle.std.proofs.Math.ListN.{take, drop}
-use Rattle.limits.specs.Number.{fault_of, text_of}
 use Rattle.meaning.specs.Stream.{Event, document}
 use Rattle.meaning.specs.Standing.{listed}
 use Rattle.meaning.specs.Offering.{Offering, offering_all}
@@ -52,9 +51,9 @@ module _ {N X : List ℕ} {file : File} {i : Intake} {input R : List ℕ} {es : 
   -- whatever follows
   events_begin : (more : List ℕ) → (gs : List Ev) × (text_events (h.bytes ++ more) ≡ es ++ gs)
   unfolding text_events
-  events_begin more = go (ℕ_discrete (text_of i.refusal) 0)
+  events_begin more = go (ℕ_discrete i.refusal 0)
     where
-      go : Dec (text_of i.refusal ≡ 0) → (gs : List Ev) × (events (read_text (h.bytes ++ more)) ≡ es ++ gs)
+      go : Dec (i.refusal ≡ 0) → (gs : List Ev) × (events (read_text (h.bytes ++ more)) ≡ es ++ gs)
       go (yes z) =
           let t = take i.taken h.bytes in
           let v = drop i.taken h.bytes ++ more in
@@ -66,7 +65,7 @@ module _ {N X : List ℕ} {file : File} {i : Intake} {input R : List ℕ} {es : 
                 ∙ given_events es _,
           )
       go (no z) =
-          ([], ap events (refused_later h.bytes es (text_of i.refusal) (drop i.taken h.bytes) (h.refused_so z) more) ∙ sym (append-nil es))
+          ([], ap events (refused_later h.bytes es i.refusal (drop i.taken h.bytes) (h.refused_so z) more) ∙ sym (append-nil es))
 
 refusal_some : (r : ℕ) → (r ≡ 0 → ⊥) → refusal_of r ≡ some r
 unfolding refusal_of
@@ -88,9 +87,9 @@ module _ (N X : List ℕ) (file : File) (session : Session) (st : Stand) (input 
   -- by what offering the events of the text comes to
   picked_as :
       (text : List ℕ) (w : Offering) → Received file text → offered_text b f text ≡ w → w.events ≡ v.offered.events
-      → refusal_of (fault_of st.state.refusal) ≡ w.refusal
-      → (fault_of st.state.refusal ≡ 0 → verdict_for st.intake ≡ text_verdict text)
-      → ReadOver file ⊎ ((longest ≤ length text) ⊎ ((more : List ℕ) → SamePicked b f text (text ++ more) (fault_of st.state.refusal)))
+      → refusal_of st.state.refusal ≡ w.refusal
+      → (st.state.refusal ≡ 0 → verdict_for st.intake ≡ text_verdict text)
+      → ReadOver file ⊎ ((longest ≤ length text) ⊎ ((more : List ℕ) → SamePicked b f text (text ++ more) st.state.refusal))
       → Picked b N X file st E M
   picked_as text w got e ev-so r verdict end =
       let es : (offered_text b f text).events ≡ v.offered.events = ap (λ (x : Offering). x.events) e ∙ ev-so in
@@ -112,9 +111,8 @@ module _ (N X : List ℕ) (file : File) (session : Session) (st : Stand) (input 
       }
 
   -- an event was refused: whatever text follows changes nothing
-  module _ (z : fault_of st.state.refusal ≡ 0 → ⊥) where
-    same_offered :
-        (more : List ℕ) → offered_text b f (u.in_text.bytes ++ more) ≡ record { events = v.offered.events; refusal = some (fault_of st.state.refusal) }
+  module _ (z : st.state.refusal ≡ 0 → ⊥) where
+    same_offered : (more : List ℕ) → offered_text b f (u.in_text.bytes ++ more) ≡ record { events = v.offered.events; refusal = some st.state.refusal }
     same_offered more =
         let (gs, e) = events_begin u.in_text more in
         ap (λ (es : List Ev). offering_all (decode b) (records_in f es)) e
@@ -122,27 +120,27 @@ module _ (N X : List ℕ) (file : File) (session : Session) (st : Stand) (input 
         ∙ progress_same v.offered z (u.whole z) (records_in f gs)
         ∙ progress_refused v.offered z
 
-    here : offered_text b f u.in_text.bytes ≡ record { events = v.offered.events; refusal = some (fault_of st.state.refusal) }
+    here : offered_text b f u.in_text.bytes ≡ record { events = v.offered.events; refusal = some st.state.refusal }
     here = ap (offered_text b f) (sym (append-nil u.in_text.bytes)) ∙ same_offered []
 
     refused_picked : Picked b N X file st E M
     refused_picked =
-        picked_as u.in_text.bytes _ u.in_text.received here refl (refusal_some (fault_of st.state.refusal) z) (λ y. absurd (z y))
+        picked_as u.in_text.bytes _ u.in_text.received here refl (refusal_some st.state.refusal z) (λ y. absurd (z y))
         (inr (inr (λ more. record { same_offered = same_offered more ∙ sym here; same_verdict = λ y. absurd (z y) })))
 
   -- all events are worked on, and the text is over
-  ended_picked : fault_of st.state.refusal ≡ 0 → st.state.end ≤ st.state.from → Told file st.intake u.es → Picked b N X file st E M
+  ended_picked : st.state.refusal ≡ 0 → st.state.end ≤ st.state.from → Told file st.intake u.es → Picked b N X file st E M
   ended_picked z none_left t =
       picked_as t.text _ t.received
       (ap (λ (es : List Ev). offering_all (decode b) (records_in f es)) (sym t.events_so) ∙ progress_all v.offered z all) refl
-      (refusal_none (fault_of st.state.refusal) z) (λ y. t.verdict_so) (by_end t.to_end)
+      (refusal_none st.state.refusal z) (λ y. t.verdict_so) (by_end t.to_end)
     where
       all : length (records_in f u.es) ≤ 8 * st.state.taken
       all =
           omega
           (arith, none_left, ap length v.rest, length-drop (8 * st.state.taken) (records_in f u.es), unread_length st.state ev u.within)
 
-      same : (more : List ℕ) → SameText t.text (t.text ++ more) → SamePicked b f t.text (t.text ++ more) (fault_of st.state.refusal)
+      same : (more : List ℕ) → SameText t.text (t.text ++ more) → SamePicked b f t.text (t.text ++ more) st.state.refusal
       same more s =
           record {
             same_offered = ap (λ (es : List Ev). offering_all (decode b) (records_in f es)) s.same_events;
@@ -151,7 +149,7 @@ module _ (N X : List ℕ) (file : File) (session : Session) (st : Stand) (input 
 
       by_end :
           ReadOver file ⊎ Enough t.text
-          → ReadOver file ⊎ ((longest ≤ length t.text) ⊎ ((more : List ℕ) → SamePicked b f t.text (t.text ++ more) (fault_of st.state.refusal)))
+          → ReadOver file ⊎ ((longest ≤ length t.text) ⊎ ((more : List ℕ) → SamePicked b f t.text (t.text ++ more) st.state.refusal))
       by_end (inl x) = inl x
       by_end (inr (inl x)) = inr (inl x)
       by_end (inr (inr x)) = inr (inr (λ more. same more (x more)))

@@ -6,7 +6,6 @@
 --
 -- N and X are the list of names and its index, E and M the room. Assumes nothing.
 use Rattle.std.specs.Prelude.{ℕ, ◌+◌, ◌*◌, ◌≤◌, ◌⊎◌, ◌≡◌, Bool, true, false, List, ◌++◌, length}
-use Rattle.limits.specs.Number.{fault_of}
 use Rattle.meaning.specs.Limits.{node_limit}
 use Rattle.meaning.specs.Stream.{document}
 use Rattle.meaning.specs.Standing.{listed}
@@ -21,7 +20,7 @@ use Rattle.lines.specs.Text.{lines_of}
 use Rattle.system.specs.declared.File.{File}
 use Rattle.system.specs.Marks.{ReadOver, Received, Delivered, Failed}
 use Rattle.turns.specs.Turns.{refusal_of, BegunFor}
-use Rattle.intake.specs.Owed.{text_events, text_verdict}
+use Rattle.intake.specs.Owed.{TextNumber, text_events, text_verdict}
 use Rattle.intake.specs.Intake.{longest, verdict_for}
 use Rattle.text_turns.specs.declared.Stand.{Stand}
 
@@ -39,16 +38,17 @@ pub record Picked (b N X : List ℕ) (file : File) (st : Stand) (E M : List ℕ)
   pub received : Received file text
   pub stop : Bool
   pub reached : Of b (record { events = (offered_text b (number_of N X) text).events; stopped = stop }) (housed st.state.session E M)
-  pub going_on : fault_of st.state.refusal ≡ 0 → stop ≡ false
+  pub going_on : st.state.refusal ≡ 0 → stop ≡ false
   pub counted : st.state.taken ≡ length (offered_text b (number_of N X) text).events
-  pub refusal_so : refusal_of (fault_of st.state.refusal) ≡ (offered_text b (number_of N X) text).refusal
-  pub verdict_so : fault_of st.state.refusal ≡ 0 → verdict_for st.intake ≡ text_verdict text
+  pub refusal_so : refusal_of st.state.refusal ≡ (offered_text b (number_of N X) text).refusal
+  pub verdict_so : st.state.refusal ≡ 0 → verdict_for st.intake ≡ text_verdict text
   pub to_end :
-      ReadOver file ⊎ ((longest ≤ length text) ⊎ ((more : List ℕ) → SamePicked b (number_of N X) text (text ++ more) (fault_of st.state.refusal)))
+      ReadOver file ⊎ ((longest ≤ length text) ⊎ ((more : List ℕ) → SamePicked b (number_of N X) text (text ++ more) st.state.refusal))
   pub delivered : Delivered (lines_of (listed (decode b) (document (offered_text b (number_of N X) text).events)))
 
 pub record WorkedText (N X : List ℕ) (file : File) (session : Session) (st : Stand) (E M : List ℕ) : Type 0 where
   pub few : st.state.taken ≤ 2 * node_limit
   pub short : st.intake.taken ≤ longest + 65536
+  pub named : TextNumber st.intake.refusal
   pub picked : st.state.written ≡ true → (b : List ℕ) → BegunFor b session → Picked b N X file st E M
   pub failed : st.state.written ≡ false → Failed

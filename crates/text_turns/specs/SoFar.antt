@@ -12,7 +12,6 @@ use Rattle.std.specs.Prelude.{ℕ, suc, ◌+◌, ◌-◌, ◌*◌, ◌≤◌, �
 use native.Mathlib.Omega.{arith}
 use Rattle.std.proofs.Common.{inl, inr, sym, ap, ap₂, ◌∙◌, subst, length-append, length-drop, drop_at, eq-eqb, eqb-true}
 use mir.Val.{bool_byte}
-use Rattle.limits.specs.Number.{fault_of, text_of}
 use Rattle.choice.specs.When.{never}
 use Rattle.choice.specs.Count.{bool_byte_le}
 use Rattle.meaning.specs.Limits.{output_needed}
@@ -62,7 +61,7 @@ module _ (N X : List ℕ) (file : File) (session : Session) where
     pub within : UnreadWithin st.state (length ev)
     pub worked : (b : List ℕ) → BegunFor b session → EventsSoFar b (records_in (number_of N X) es) st.state ev E M
     -- only a whole record is refused
-    pub whole : (fault_of st.state.refusal ≡ 0 → ⊥) → 8 * st.state.taken + 8 ≤ length (records_in (number_of N X) es)
+    pub whole : (st.state.refusal ≡ 0 → ⊥) → 8 * st.state.taken + 8 ≤ length (records_in (number_of N X) es)
 
   pub begun_so_far : (input R ev E M : List ℕ) → room_needed ≤ length R → Enough (housed session E M) → TextSoFar (begun_with session) input R ev E M
   unfolding records_of numbered
@@ -84,11 +83,11 @@ module _ (N X : List ℕ) (file : File) (session : Session) where
     module _ (st' : Stand) (input' R' ev' : List ℕ) (lent : too_scant (length R) (length X) (length ev) ≡ false) (short : length input' ≤ 65536)
         (some : 0 < length input) (none_left : st.state.end ≤ st.state.from) (is : st' ≡ refilled st st'.intake)
         (a : Advanced N X file st.intake input R ev st'.intake input' R' ev') where
-      reading : (text_of st.intake.refusal ≡ 0) × (st.intake.ended ≡ false)
+      reading : (st.intake.refusal ≡ 0) × (st.intake.ended ≡ false)
       reading = go more.some
         where
-          go : (st.state.from < st.state.end) ⊎ ((text_of st.intake.refusal ≡ 0) × (st.intake.ended ≡ false))
-              → (text_of st.intake.refusal ≡ 0) × (st.intake.ended ≡ false)
+          go : (st.state.from < st.state.end) ⊎ ((st.intake.refusal ≡ 0) × (st.intake.ended ≡ false))
+              → (st.intake.refusal ≡ 0) × (st.intake.ended ≡ false)
           go (inl l) = absurd (omega (arith, l, none_left))
           go (inr h) = h
 
@@ -128,8 +127,8 @@ module _ (N X : List ℕ) (file : File) (session : Session) where
             whole = λ z. absurd (z refl);
           })
 
-      filled_more : (fault_of st'.state.refusal ≡ 0) × (st'.state.written ≡ true)
-      filled_more = (ap (λ (s : Stand). fault_of s.state.refusal) is, ap (λ (s : Stand). s.state.written) is)
+      filled_more : (st'.state.refusal ≡ 0) × (st'.state.written ≡ true)
+      filled_more = (ap (λ (s : Stand). s.state.refusal) is, ap (λ (s : Stand). s.state.written) is)
 
       filled_left : text_left st'.intake < text_left st.intake
       filled_left =
@@ -138,7 +137,7 @@ module _ (N X : List ℕ) (file : File) (session : Session) where
     -- before a block: nothing is refused, all was taken, and events are unread or text was read
     pub record Refills (st' : Stand) (input' R' ev' : List ℕ) : Type 0 where
       pub so_far : TextSoFar st' input' R' ev' E M
-      pub unrefused : fault_of st'.state.refusal ≡ 0
+      pub unrefused : st'.state.refusal ≡ 0
       pub taking : st'.state.written ≡ true
       pub left : ((st' ≡ st) × ((ev' ≡ ev) × (st.state.from < st.state.end))) ⊎ (text_left st'.intake < text_left st.intake)
 
@@ -149,7 +148,7 @@ module _ (N X : List ℕ) (file : File) (session : Session) where
     refill_so_far st' input' R' ev' lent short some (kept l is a b c) =
         record {
           so_far = rw (is, a, b, c) u;
-          unrefused = ap (λ (s : Stand). fault_of s.state.refusal) is ∙ more.unrefused;
+          unrefused = ap (λ (s : Stand). s.state.refusal) is ∙ more.unrefused;
           taking = ap (λ (s : Stand). s.state.written) is ∙ more.taking;
           left = inl (is, (c, l));
         }
@@ -163,10 +162,9 @@ module _ (N X : List ℕ) (file : File) (session : Session) where
 
   -- how much is still to come at most: text, events that are unread, a refusal
   abbrev pub left_of : Stand → List ℕ → ℕ
-  left_of st ev = 40000 * text_left st.intake + (length (unread st.state ev) + bool_byte (eqb (fault_of st.state.refusal) 0))
+  left_of st ev = 40000 * text_left st.intake + (length (unread st.state ev) + bool_byte (eqb st.state.refusal 0))
 
-  module _ (st : Stand) (input R ev E M : List ℕ) (u : TextSoFar st input R ev E M)
-      (unrefused : fault_of st.state.refusal ≡ 0) (taking : st.state.written ≡ true)
+  module _ (st : Stand) (input R ev E M : List ℕ) (u : TextSoFar st input R ev E M) (unrefused : st.state.refusal ≡ 0) (taking : st.state.written ≡ true)
       (b : List ℕ) (o : BegunFor b session) (out : List ℕ) (s' : State) (E' M' : List ℕ) (x : Worked st.state ev E M out s' E' M') where
     abbrev worked_on : Stand
     worked_on = record { intake = st.intake; state = s' }
@@ -191,12 +189,12 @@ module _ (N X : List ℕ) (file : File) (session : Session) where
     pub work_no_more : length (unread s' ev) ≤ length (unread st.state ev)
     work_no_more = omega (arith, left_after)
 
-    flag : bool_byte (eqb (fault_of st.state.refusal) 0) ≡ 1
-    flag = ap bool_byte (eq-eqb (fault_of st.state.refusal) 0 unrefused)
+    flag : bool_byte (eqb st.state.refusal 0) ≡ 1
+    flag = ap bool_byte (eq-eqb st.state.refusal 0 unrefused)
 
     -- of events that are unread one is taken, or one is refused
     pub work_less : output_needed ≤ length out → st.state.from < st.state.end → left_of worked_on ev < left_of st ev
-    work_less wide l = by (eqb (fault_of s'.refusal) 0) refl
+    work_less wide l = by (eqb s'.refusal 0) refl
       where
         eight : 8 ≤ st.state.end - st.state.from
         eight =
@@ -204,7 +202,7 @@ module _ (N X : List ℕ) (file : File) (session : Session) where
             let rest = ap length (u.worked b o).rest ∙ length-drop (8 * st.state.taken) (records_in (number_of N X) u.es) in
             omega (arith, e, rest, unread_length st.state ev u.within, l)
 
-        by : (c : Bool) → eqb (fault_of s'.refusal) 0 ≡ c → left_of worked_on ev < left_of st ev
+        by : (c : Bool) → eqb s'.refusal 0 ≡ c → left_of worked_on ev < left_of st ev
         by true e =
             let some = work_some st.state ev E M (u.worked b o) unrefused taking u.within out s' E' M' x eight wide (eqb-true _ _ e) in
             omega (
@@ -213,9 +211,9 @@ module _ (N X : List ℕ) (file : File) (session : Session) where
               left_after,
               work_within st.state ev E M (u.worked b o) unrefused taking u.within out s' E' M' x,
               flag,
-              bool_byte_le (eqb (fault_of s'.refusal) 0),
+              bool_byte_le (eqb s'.refusal 0),
             )
-        by false e = let last : bool_byte (eqb (fault_of s'.refusal) 0) ≡ 0 = ap bool_byte e in omega (arith, left_after, flag, last)
+        by false e = let last : bool_byte (eqb s'.refusal 0) ≡ 0 = ap bool_byte e in omega (arith, left_after, flag, last)
 
   -- a whole turn
   module _ (st : Stand) (input R ev E M : List ℕ) (u : TextSoFar st input R ev E M) (more : More st.intake st.state)
@@ -242,7 +240,7 @@ module _ (N X : List ℕ) (file : File) (session : Session) where
             (subst (λ (z : Stand). z.state.from < z.state.end) (sym is) l))
         go (inr less) =
             text_less (text_left st'.intake) (text_left st.intake) (length (unread s' ev')) _ _ _ less
-            (most (work_no_more st' input' R' ev' E M y.so_far y.unrefused y.taking b o out s' E' M' x)) (bool_byte_le (eqb (fault_of s'.refusal) 0))
+            (most (work_no_more st' input' R' ev' E M y.so_far y.unrefused y.taking b o out s' E' M' x)) (bool_byte_le (eqb s'.refusal 0))
 
 -- as the loop has it
 pub begun_as :

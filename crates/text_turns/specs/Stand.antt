@@ -8,10 +8,9 @@
 --   Refilled N X file st input R ev st' input' R' ev'      more events, where all that have come are worked on
 --
 -- N and X are the list of names and its index. Assumes nothing.
-use Rattle.std.specs.Prelude.{ℕ, ◌≤◌, ◌<◌, ◌⊎◌, ◌≡◌, refl, Bool, true, false, List, None, eqb, ltb}
+use Rattle.std.specs.Prelude.{ℕ, ◌≤◌, ◌<◌, ◌⊎◌, ◌≡◌, refl, Bool, true, false, List, eqb, ltb}
 use Rattle.std.proofs.Common.{inl, inr, sym, ap, eqb-true, ltb-true, ltb-false}
 use Rattle.std.proofs.lemmas.Bool.{eqb-false}
-use Rattle.limits.specs.Number.{fault_of, text_of}
 use Rattle.limits.specs.Number.Laws.{some_number, some_text}
 use Rattle.choice.specs.When.{when, never}
 use Rattle.session.specs.declared.Session.{Session}
@@ -26,13 +25,13 @@ pub ruleset numbers = (some_number, some_text)
 
 abbrev pub begun_with : Session → Stand
 begun_with session =
-    record { intake = begun; state = record { session = session; from = 0; end = 0; taken = 0; refusal = None; ended = false; written = true } }
+    record { intake = begun; state = record { session = session; from = 0; end = 0; taken = 0; refusal = 0; ended = false; written = true } }
 
 abbrev pub refilled : Stand → Intake → Stand
 refilled st i =
     record {
       intake = i;
-      state = record { session = st.state.session; from = 0; end = i.written; taken = st.state.taken; refusal = None; ended = false; written = true };
+      state = record { session = st.state.session; from = 0; end = i.written; taken = st.state.taken; refusal = 0; ended = false; written = true };
     }
 
 unfoldable pub more_by : ℕ → Bool → ℕ → ℕ → ℕ → Bool → Bool
@@ -40,12 +39,12 @@ more_by refusal written from end stop ended =
     when (eqb refusal 0) (when written (when (ltb from end) true (when (eqb stop 0) (when ended false true) false)) false) false
 
 abbrev pub more_text : Intake → State → Bool
-more_text i s = more_by (fault_of s.refusal) s.written s.from s.end (text_of i.refusal) i.ended
+more_text i s = more_by s.refusal s.written s.from s.end i.refusal i.ended
 
 pub record More (i : Intake) (s : State) : Type 0 where
-  pub unrefused : fault_of s.refusal ≡ 0
+  pub unrefused : s.refusal ≡ 0
   pub taking : s.written ≡ true
-  pub some : (s.from < s.end) ⊎ ((text_of i.refusal ≡ 0) × (i.ended ≡ false))
+  pub some : (s.from < s.end) ⊎ ((i.refusal ≡ 0) × (i.ended ≡ false))
 
 not_ended : (b : Bool) → when b false true ≡ true → b ≡ false
 unfolding when
@@ -54,10 +53,10 @@ not_ended false e = refl
 
 pub more_is : (i : Intake) (s : State) → more_text i s ≡ true → More i s
 unfolding more_by when
-more_is i s h = go (eqb (fault_of s.refusal) 0) s.written (ltb s.from s.end) (eqb (text_of i.refusal) 0) refl refl refl refl h
+more_is i s h = go (eqb s.refusal 0) s.written (ltb s.from s.end) (eqb i.refusal 0) refl refl refl refl h
   where
     go :
-        (a b c d : Bool) → eqb (fault_of s.refusal) 0 ≡ a → s.written ≡ b → ltb s.from s.end ≡ c → eqb (text_of i.refusal) 0 ≡ d
+        (a b c d : Bool) → eqb s.refusal 0 ≡ a → s.written ≡ b → ltb s.from s.end ≡ c → eqb i.refusal 0 ≡ d
         → when a (when b (when c true (when d (when i.ended false true) false)) false) false ≡ true
         → More i s
     go true true true d e f g k h = record { unrefused = eqb-true _ _ e; taking = f; some = inl (ltb-true _ _ g) }
@@ -68,8 +67,8 @@ more_is i s h = go (eqb (fault_of s.refusal) 0) s.written (ltb s.from s.end) (eq
 
 -- nothing is more to do: an event was refused, or all events are worked on, and a byte was refused or the text ended
 pub data Done (i : Intake) (s : State) : Type 0 where
-  event_refused : (fault_of s.refusal ≡ 0 → ⊥) → Done i s
-  text_over : fault_of s.refusal ≡ 0 → s.end ≤ s.from → (text_of i.refusal ≡ 0 → ⊥) ⊎ (i.ended ≡ true) → Done i s
+  event_refused : (s.refusal ≡ 0 → ⊥) → Done i s
+  text_over : s.refusal ≡ 0 → s.end ≤ s.from → (i.refusal ≡ 0 → ⊥) ⊎ (i.ended ≡ true) → Done i s
 
 over : (b : Bool) → when b false true ≡ false → b ≡ true
 unfolding when
@@ -78,10 +77,10 @@ over false e = never (sym e)
 
 pub done_is : (i : Intake) (s : State) → more_text i s ≡ false → s.written ≡ true → Done i s
 unfolding more_by when
-done_is i s h w = go (eqb (fault_of s.refusal) 0) s.written (ltb s.from s.end) (eqb (text_of i.refusal) 0) refl refl refl refl w h
+done_is i s h w = go (eqb s.refusal 0) s.written (ltb s.from s.end) (eqb i.refusal 0) refl refl refl refl w h
   where
     go :
-        (a b c d : Bool) → eqb (fault_of s.refusal) 0 ≡ a → s.written ≡ b → ltb s.from s.end ≡ c → eqb (text_of i.refusal) 0 ≡ d
+        (a b c d : Bool) → eqb s.refusal 0 ≡ a → s.written ≡ b → ltb s.from s.end ≡ c → eqb i.refusal 0 ≡ d
         → b ≡ true
         → when a (when b (when c true (when d (when i.ended false true) false)) false) false ≡ false
         → Done i s
@@ -102,10 +101,6 @@ pub data Refilled (N X : List ℕ) (file : File) (st : Stand) (input R ev : List
 pub begun_stand :
     (i : Intake) (session : Session) → i ≡ begun
     → ◌≡◌ {A = Stand}
-    (record { intake = i; state = record { session = session; from = 0; end = 0; taken = 0; refusal = None; ended = false; written = true } })
-    (begun_with session)
+    (record { intake = i; state = record { session = session; from = 0; end = 0; taken = 0; refusal = 0; ended = false; written = true } }) (begun_with session)
 begun_stand i session e =
-    ap
-    (λ (j : Intake).
-    record { intake = j; state = record { session = session; from = 0; end = 0; taken = 0; refusal = None; ended = false; written = true } })
-    e
+    ap (λ (j : Intake). record { intake = j; state = record { session = session; from = 0; end = 0; taken = 0; refusal = 0; ended = false; written = true } }) e

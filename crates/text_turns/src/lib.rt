@@ -29,14 +29,8 @@ fn more_to_do(stand: &Stand) -> bool
     ensures { result ≡ more_text stand.now.intake stand.now.state }
 {
     let Stand { intake, state } = *stand;
-    let text_left = match intake.refusal {
-        Some(_) => false,
-        None => !intake.ended,
-    };
-    match state.refusal {
-        Some(_) => false,
-        None => state.written && (state.from < state.end || text_left),
-    }
+    let text_left = intake.refusal == 0 && !intake.ended;
+    state.refusal == 0 && state.written && (state.from < state.end || text_left)
 }
 
 // Before the first turn.
@@ -50,7 +44,7 @@ fn begin(session: Session) -> Stand
             from: 0,
             end: 0,
             taken: 0,
-            refusal: None,
+            refusal: 0,
             ended: false,
             written: true,
         },
@@ -82,7 +76,7 @@ fn refill(
         state: State {
             from: 0,
             end: intake.written,
-            refusal: None,
+            refusal: 0,
             ended: false,
             written: true,
             ..state

@@ -2,6 +2,7 @@
 --
 --   finish_line_of q es       the last line where no event was refused;  last_line_by: by the refusal of one
 --   last_line_owed          the last line by finish's answer, the events taken and the refusal is the one that is owed
+--   by_number_told          finish's answer with the number of its refusal
 --   query_silent            only an admitted query is answered by no line
 --   not_admitted            a query that begin refuses is not admitted
 --   begin_checked           with enough room begin answers the query
@@ -11,7 +12,8 @@
 --   answered_by             one of two, by the first
 --
 -- Assumes nothing.
-use Rattle.std.specs.Prelude.{ℕ, zero, suc, ◌+◌, ◌%◌, ◌≤◌, ◌<◌, ◌⊎◌, ◌≡◌, refl, Bool, true, false, not, ◌||◌, cond, List, Result, Ok, Err, eqb, length, take}
+use Rattle.std.specs.Prelude.{ℕ, zero, suc, ◌+◌, ◌%◌, ◌≤◌, ◌<◌, ◌⊎◌, ◌≡◌, refl, Bool, true, false, not, ◌||◌, cond, List, Result, Ok, Err}
+use Rattle.std.specs.Prelude.{MatchResult, IsErrAnd, eqb, length, take}
 use Rattle.std.proofs.Common.{arith, inl, inr, ap, ap₂, ◌∙◌, subst, lt-ltb}
 use Rattle.std.proofs.Math.Bool.{or-true}
 use Rattle.std.proofs.Math.Option.{Option, none, some}
@@ -27,7 +29,7 @@ use Rattle.query.specs.Answer.{admitted, refused, judged, if_wrong, answer_to}
 use Rattle.query.specs.Decode.{decode}
 use Rattle.io.specs.Counts.{IsPrefixLen}
 use Rattle.session.specs.declared.Session.{Session}
-use Rattle.limits.specs.Number.{reason_number}
+use Rattle.limits.specs.Number.{number, reason_number}
 use Rattle.limits.specs.declared.Refusal.{Refusal}
 use Rattle.limits.specs.declared.Refusal.TheVariants.{Stopped, Unfinished}
 use Rattle.query.specs.declared.QueryFault.TheVariants.{Length, Step}
@@ -41,7 +43,7 @@ use Rattle.session.specs.Event.{finish}
 use Rattle.session.specs.Run.{Housed}
 use Rattle.promise.specs.Promise.{Of, begin_answer, ended_is, handed_is}
 use Rattle.lines.specs.Text.{end_line, refusal_text, refused_at_line, refused_for_line, refused_line}
-use Rattle.closing.specs.Line.{query_line, line_of_finish, line_of_end}
+use Rattle.closing.specs.Line.{query_line, by_number, line_of_finish, line_of_end}
 use Rattle.meaning.specs.Document.{finished}
 use Rattle.meaning.specs.Query.{Query}
 use Rattle.turns.specs.Turns.{refusal_of, BegunFor}
@@ -87,6 +89,12 @@ last_line_owed {b} {es} {l = l} o f e taken zero on t =
 last_line_owed o f e taken (suc r) on t =
     ap (λ (x : Bool). cond x (refused_at_line (suc r) (taken + 1)) (line_of_finish f taken)) (lt-ltb 0 (suc r) (omega arith))
     ∙ ap (λ (n : ℕ). refused_at_line (suc r) (n + 1)) t
+
+pub by_number_told :
+    (f : Result Counts Refusal) (g : Result Counts ℕ) → MatchResult f (λ c. g ≡ Ok c) (λ r. IsErrAnd g (λ n. n ≡ number r)) → g ≡ by_number f
+by_number_told (Ok c) g e = e
+by_number_told (Err r) (Ok c) e = absurd e
+by_number_told (Err r) (Err n) e = ap (λ (k : ℕ). Err k) e
 
 refused_long : (n : ℕ) → 0 < length (refused_line n)
 unfolding refused_line

@@ -14,7 +14,6 @@ pub mod Laws
 use Rattle.std.specs.Prelude.{ℕ, zero, suc, ◌-◌, ◌+◌, ◌*◌, ◌≤◌, ◌<◌, ◌⊎◌, ◌≡◌, Bool, true, false, List, [], ◌++◌, eqb, length, drop}
 use Rattle.std.proofs.Math.Option.{Option, none, some}
 use Rattle.choice.specs.When.{when}
-use Rattle.limits.specs.Number.{fault_of}
 use Rattle.meaning.specs.Limits.{node_limit}
 use Rattle.meaning.specs.Stream.{document}
 use Rattle.meaning.specs.Standing.{listed}
@@ -56,7 +55,7 @@ pub data TurnTaken (file : File) (s : State) (input E N out : List ℕ) (s' : St
 pub record EventsSoFar (b bytes : List ℕ) (s : State) (input E N : List ℕ) : Type 0 where
   -- what is listed for it
   pub nodes : List ℕ
-  pub offered : Progress b [] bytes (housed s.session E N) s.taken (fault_of s.refusal) nodes
+  pub offered : Progress b [] bytes (housed s.session E N) s.taken s.refusal nodes
   pub enough : Enough (housed s.session E N)
   pub rest : unread s input ≡ drop (8 * s.taken) bytes
   pub delivered : s.written ≡ true → Delivered (lines_of nodes)
@@ -69,9 +68,9 @@ pub record TurnsSoFar (b : List ℕ) (file : File) (s : State) (input E N : List
   pub events : EventsSoFar b bytes s input E N
   -- a read has given nothing; then nothing is left over or it was refused
   pub at_end : s.ended ≡ true → ReadOver file
-  pub over : s.ended ≡ true → fault_of s.refusal ≡ 0 → length bytes ≤ 8 * s.taken
+  pub over : s.ended ≡ true → s.refusal ≡ 0 → length bytes ≤ 8 * s.taken
   -- else only a whole record is refused
-  pub whole : s.ended ≡ false → (fault_of s.refusal ≡ 0 → ⊥) → 8 * s.taken + 8 ≤ length bytes
+  pub whole : s.ended ≡ false → (s.refusal ≡ 0 → ⊥) → 8 * s.taken + 8 ≤ length bytes
 
 -- the whole stream, for the query bytes b
 pub record Streamed (b : List ℕ) (file : File) (s : State) (E N : List ℕ) : Type 0 where
@@ -79,9 +78,9 @@ pub record Streamed (b : List ℕ) (file : File) (s : State) (E N : List ℕ) : 
   pub received : Received file bytes
   pub stop : Bool
   pub reached : Of b (record { events = (offering_all (decode b) bytes).events; stopped = stop }) (housed s.session E N)
-  pub going_on : fault_of s.refusal ≡ 0 → stop ≡ false
+  pub going_on : s.refusal ≡ 0 → stop ≡ false
   pub counted : s.taken ≡ length (offering_all (decode b) bytes).events
-  pub refusal_so : refusal_of (fault_of s.refusal) ≡ (offering_all (decode b) bytes).refusal
+  pub refusal_so : refusal_of s.refusal ≡ (offering_all (decode b) bytes).refusal
   pub to_end : ReadOver file ⊎ ((more : List ℕ) → offering_all (decode b) (bytes ++ more) ≡ offering_all (decode b) bytes)
   pub delivered : Delivered (lines_of (listed (decode b) (document (offering_all (decode b) bytes).events)))
 

@@ -2,7 +2,6 @@
 #![tactic(auto)]
 
 ghost use Rattle.std.specs.Prelude.{◌≡◌, ◌*◌, ◌≤◌, length, IfOk, IfErr};
-ghost use Rattle.limits.specs.Number.{fault_of};
 ghost use Rattle.meaning.specs.Limits.{node_limit, output_needed, elements_needed, nodes_needed};
 ghost use Rattle.reads.specs.State.{UnreadWithin};
 ghost use Rattle.turns.specs.Owed.{Admitted, Declined};
@@ -51,14 +50,11 @@ fn take_turn(
 }
 
 // Whether there is more to do.
-#[tactic(auto, using(limits::specs::Number::Laws::some_number), unfolding(crate::specs::Turns::more_to_do, choice::specs::When::when))]
+#[tactic(auto, unfolding(crate::specs::Turns::more_to_do, choice::specs::When::when))]
 fn more_to_do(state: &State) -> bool
-    ensures { result ≡ more_to_do (fault_of state.now.refusal) state.now.ended state.now.written }
+    ensures { result ≡ more_to_do state.now.refusal state.now.ended state.now.written }
 {
-    match state.refusal {
-        Some(_) => false,
-        None => !state.ended && state.written,
-    }
+    state.refusal == 0 && !state.ended && state.written
 }
 
 // A file need not end, but the loop does: a turn that reads gets a byte or is the last, a turn that works takes an event or is the last, and no
@@ -83,7 +79,7 @@ pub fn work_all(
         from: 0,
         end: 0,
         taken: 0,
-        refusal: None,
+        refusal: 0,
         ended: false,
         written: true,
     };

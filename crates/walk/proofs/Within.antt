@@ -1,11 +1,12 @@
--- A loop and a turn stay inside the text, and a turn that is not refused goes on.
+-- A loop and a turn stay inside the text, a turn that is not refused goes on, and one that is refused has a refusal's number.
 --
 --   span_within, copied_within, agreed_within      how far each loop goes
 --   walked_within        a loop stays inside the text
 --   turned_within        so does a turn;  turned_on: one that is not refused goes on by a byte at least
+--   turned_told          a turn is refused with a refusal of text and with no other number
 --
 -- Assumes nothing.
-use Rattle.std.specs.Prelude.{ℕ, suc, ◌+◌, ◌≤◌, ◌<◌, ◌≡◌, List, [], ◌∷◌, eqb, leb, get_or, set, drop}
+use Rattle.std.specs.Prelude.{ℕ, suc, ◌+◌, ◌≤◌, ◌<◌, ◌≡◌, refl, List, [], ◌∷◌, eqb, leb, get_or, set, drop}
 use Rattle.std.proofs.Common.{arith, sym, length-drop}
 use Rattle.std.proofs.Math.Path.{subst}
 use Rattle.std.proofs.Math.ListN.{length}
@@ -15,8 +16,10 @@ use Rattle.chars.specs.Marks.{marked, span}
 use Rattle.slots.specs.Slots.{name_bytes, base_of, length_in}
 use Rattle.slots.specs.Copied.{Copied, copied, Agreed, agreed, name_mark}
 use Rattle.limits.specs.Number.{text_of}
+use Rattle.limits.specs.Number.Laws.{text_at}
 use Rattle.modes.specs.declared.Reader.{Reader}
 use Rattle.tick.specs.Tick.{tick}
+use Rattle.tick.proofs.Told.{Told, on, tick_told}
 use Rattle.walk.specs.declared.Pace.{Pace}
 use Rattle.walk.specs.declared.Pace.TheVariants as pace
 use Rattle.walk.specs.Walk.{pace_of, walked_by, walked}
@@ -80,14 +83,25 @@ module _ (M : List ℕ) (r : Reader) (t : List ℕ) (at : ℕ) (R : List ℕ) (l
       (λ e.
       let x = tick M (here_after r w) (get_or t w.at 0) w.room in
       let k : w.at < length t = leb-false _ _ e in
-      when_either (Between at (length t)) (eqb (text_of x.reader.refusal) 0) (w.at + 1) w.at (omega (arith, inside.0), omega arith) inside)
+      when_either (Between at (length t)) (eqb x.reader.refusal 0) (w.at + 1) w.at (omega (arith, inside.0), omega arith) inside)
 
-  pub turned_on : at < length t → text_of (turned M r t at R).reader.refusal ≡ 0 → at < (turned M r t at R).at
+  pub turned_on : at < length t → (turned M r t at R).reader.refusal ≡ 0 → at < (turned M r t at R).at
   unfolding turned turned_from ticked_at w
   turned_on h =
-      when_known (λ (z : Turned). text_of z.reader.refusal ≡ 0 → at < z.at) (leb (length t) w.at) _ _
+      when_known (λ (z : Turned). z.reader.refusal ≡ 0 → at < z.at) (leb (length t) w.at) _ _
       (λ e f. let k : length t ≤ w.at = leb-true _ _ e in omega arith)
       (λ e f.
       let x = tick M (here_after r w) (get_or t w.at 0) w.room in
-      subst (λ n. at < n) (sym (when_true (eqb (text_of x.reader.refusal) 0) (w.at + 1) w.at (eq-eqb _ 0 f)))
+      subst (λ n. at < n) (sym (when_true (eqb x.reader.refusal 0) (w.at + 1) w.at (eq-eqb _ 0 f)))
       (let z : at < w.at + 1 = omega (arith, inside.0) in z))
+
+told : (M : List ℕ) (r : Reader) (t : List ℕ) (at : ℕ) (R : List ℕ) → Told (turned M r t at R).reader
+unfolding turned turned_from ticked_at
+told M r t at R =
+    let w = walked M r at (drop at t) R in
+    when_either (λ (z : Turned). Told z.reader) (leb (length t) w.at) _ _ (on refl) (tick_told M (here_after r w) (get_or t w.at 0) w.room)
+
+pub turned_told :
+    (M : List ℕ) (r : Reader) (t : List ℕ) (at : ℕ) (R : List ℕ)
+    → text_of (text_at (turned M r t at R).reader.refusal) ≡ (turned M r t at R).reader.refusal
+turned_told M r t at R = (told M r t at R).back

@@ -15,9 +15,8 @@ use Rattle.std.proofs.lemmas.Bool.{lt-leb}
 use Rattle.choice.specs.When.{when, when_true, when_false}
 use Rattle.choice.specs.Tests.{tests}
 use Rattle.slots.specs.Copied.{Copied}
-use Rattle.limits.specs.Number.{text_of}
 use Rattle.modes.specs.declared.Reader.{Reader}
-use Rattle.modes.specs.Moves.{spell_on, refused_test}
+use Rattle.modes.specs.Moves.{spell_on}
 use Rattle.tags.specs.Markup.{Ticked}
 use Rattle.tick.specs.Tick.{tick}
 use Rattle.walk.specs.Walk.{walked}
@@ -28,7 +27,7 @@ pub record Turned : Type 0 where
   pub room : List ℕ
 
 unfoldable pub ticked_at : Ticked → ℕ → Turned
-ticked_at x end = record { reader = x.reader; at = when (eqb (text_of x.reader.refusal) 0) (end + 1) end; room = x.room }
+ticked_at x end = record { reader = x.reader; at = when (eqb x.reader.refusal 0) (end + 1) end; room = x.room }
 
 -- the reader after the loop
 abbrev pub here_after : Reader → Copied → Reader
@@ -62,12 +61,12 @@ module _
           ∙ sym (when_false _ _ _ (lt-leb (length t) w.at l))
           ∙ whole
 
-      pub turn_refused : (text_of x.reader.refusal ≡ 0 → ⊥) → record { reader = x.reader; at = w.at; room = x.room } ≡ turned M r t at R
+      pub turn_refused : (x.reader.refusal ≡ 0 → ⊥) → record { reader = x.reader; at = w.at; room = x.room } ≡ turned M r t at R
       unfolding ticked_at
       turn_refused f = ap (λ z. record { reader = x.reader; at = z; room = x.room }) (sym (when_false _ (w.at + 1) _ (ne_eqb _ 0 f))) ∙ ticks
 
-      pub turn_on : text_of x.reader.refusal ≡ 0 → record { reader = x.reader; at = w.at + 1; room = x.room } ≡ turned M r t at R
+      pub turn_on : x.reader.refusal ≡ 0 → record { reader = x.reader; at = w.at + 1; room = x.room } ≡ turned M r t at R
       unfolding ticked_at
       turn_on f = ap (λ z. record { reader = x.reader; at = z; room = x.room }) (sym (when_true _ _ w.at (eq-eqb _ 0 f))) ∙ ticks
 
-pub ruleset turning = (tests, refused_test)
+pub ruleset turning = (tests)

@@ -144,7 +144,7 @@ pub fn turn(
     }
     let b = text[end];
     let next = copied(tick::tick(marks, here, b, room));
-    if next.refusal.is_some() {
+    if next.refusal != 0 {
         return Gone {
             reader: next,
             at: end,

@@ -4,7 +4,6 @@
 #![tactic(auto)]
 
 ghost use Rattle.std.specs.Prelude.{◌≡◌, ◌≤◌, length, IfSome, IfNone};
-ghost use Rattle.limits.specs.Number.{text_of};
 ghost use Rattle.chains.specs.Index.{index_words};
 ghost use Rattle.system.specs.Marks.{Failed};
 ghost use Rattle.intake.specs.Owed.{judged};
@@ -15,10 +14,11 @@ use std::io::Stdout;
 use system::File;
 
 // Whether there is more to do.
+#[tactic(auto, unfolding(crate::specs::Program::more_to_do, choice::specs::When::when))]
 fn more_to_do(intake: &Intake, written: bool) -> bool
-    ensures { result ≡ more_to_do (text_of intake.now.refusal) intake.now.ended written }
+    ensures { result ≡ more_to_do intake.now.refusal intake.now.ended written }
 {
-    intake.refusal.is_none() && !intake.ended && written
+    intake.refusal == 0 && !intake.ended && written
 }
 
 // How far the text is read after all turns, or nothing where standard output did not take all that was handed to it. A file need not end, but the loop does:
@@ -69,7 +69,7 @@ fn answer(rt: &HostRuntime) -> Option<Verdict>
     let n = intake::read_names(rt, &mut names);
     if let Err(fault) = names::build(&names[..n], &mut index) {
         return Some(Verdict {
-            refusal: fault.refusal,
+            refusal: fault.refusal.number(),
             at: fault.line as u64,
         });
     }
@@ -82,7 +82,7 @@ fn answer_files(rt: &HostRuntime)
 {
     if let Some(verdict) = answer(rt) {
         let mut line = [0u8; 64];
-        let length = lines::put_refused_at(verdict.refusal.number(), verdict.at, &mut line);
+        let length = lines::put_refused_at(verdict.refusal, verdict.at, &mut line);
         system::write_error(rt.stderr(), &line[..length]);
     }
 }

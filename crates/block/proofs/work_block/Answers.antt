@@ -19,3 +19,4 @@ returns c =
     let lines = c.put_lines-length.ensures in
     worked_so a.state a.input.now a.elements.now a.nodes.now a.out.now run.result _ _ _ _ _ c.put_lines-length.result _
     c.requires.unread_within.0 run.ensures.run_gives run.ensures.taken_in_bounds.0 lines.put lines.prefix_len.0 c.write_text-written.ensures
+    _ (omega (arith, c.number_of.ensures))

@@ -31,5 +31,5 @@ overflow_add-result-2 c =
 pub returns : goal.returns
 returns c =
     let a = c.args in
-    fed_so a.names.now a.index.now a.intake _ a.room.now a.events.now _
-    (part_bytes a.input.now a.intake.from (a.intake.end - a.intake.from) (λ i. (c.type_inv.input i).fits)) c.feed-fed.ensures
+    fed_so a.names.now a.index.now a.intake _ a.room.now a.events.now _ _
+    (part_bytes a.input.now a.intake.from (a.intake.end - a.intake.from) (λ i. (c.type_inv.input i).fits)) c.feed-fed.ensures c.number_of.ensures

@@ -1,34 +1,34 @@
 -- `intake::judge` meets its contract. Assumes nothing.
-use Rattle.std.specs.Prelude.{◌+◌, ◌≡◌, Option, Some, None}
-use Rattle.std.proofs.Common.{rules, arith, refl, sym, ap, ◌∙◌, eq-eqb, ne_eqb}
-use Rattle.choice.specs.When.{when_yes, when_no}
-use Rattle.limits.specs.declared.TextRefusal.{TextRefusal}
-use Rattle.limits.specs.Number.{text_of, text_number}
-use Rattle.limits.specs.Number.Laws.{some_text}
+use Rattle.std.specs.Prelude.{ℕ, ◌+◌, ◌≡◌, None}
+use Rattle.std.proofs.Common.{refl, sym, ap, ◌∙◌, eq-eqb, ne_eqb, inl, inr, subst}
+use Rattle.choice.specs.When.{when_yes, when_no, when_either}
 use Rattle.intake.specs.declared.Intake.{Intake}
 use Rattle.intake.specs.Intake.{end_of, verdict_for}
-use Rattle.intake.specs.Owed.{refused_at}
+use Rattle.intake.specs.Owed.{refused_at, Named, TextNumber, text_named}
 use Rattle.intake.proofs.judge.Goals as goal
 
-none_is : (i : Intake) (q : Option TextRefusal) → q ≡ None → text_of q ≡ end_of i.reader (text_of i.refusal) → None ≡ verdict_for i
+none_is : (i : Intake) (q : ℕ) → q ≡ end_of i.reader i.refusal → q ≡ 0 → None ≡ verdict_for i
 unfolding verdict_for
-none_is i q z e = when_yes _ _ _ _ (eq-eqb _ _ (sym e ∙ ap text_of z)) refl
+none_is i q e z = when_yes _ _ _ _ (eq-eqb _ _ (sym e ∙ z)) refl
 
-some_is :
-    (i : Intake) (q : Option TextRefusal) (t : TextRefusal) → q ≡ Some t → text_of q ≡ end_of i.reader (text_of i.refusal) →
-    refused_at (text_number t) (i.taken + 1) ≡ verdict_for i
+some_is : (i : Intake) (q : ℕ) → q ≡ end_of i.reader i.refusal → (q ≡ 0 → ⊥) → refused_at q (i.taken + 1) ≡ verdict_for i
 unfolding verdict_for
-some_is i q t s e =
-    let same = sym (ap text_of s) ∙ e in
-    let l = some_text t in
-    when_no _ _ _ _ (ne_eqb _ _ (λ y. omega (arith, l, same, y))) (ap (λ k. refused_at k (i.taken + 1)) same)
+some_is i q e z = when_no _ _ _ _ (ne_eqb _ _ (λ y. z (e ∙ y))) (ap (λ (k : ℕ). refused_at k (i.taken + 1)) e)
 
-pub returns-in_err-refusal : goal.returns-in_err-refusal
-returns-in_err-refusal c =
-    let none : c.ending.result ≡ None = search rules in
-    rw c.from_residual.ensures (none_is c.args.intake _ none c.ending.ensures)
+named_by : (q : ℕ) → TextNumber q → (q ≡ 0 → ⊥) → Named q
+named_by q (inl e) z = absurd (z e)
+named_by q (inr n) z = n
+
+some_named : (i : Intake) (q : ℕ) → q ≡ end_of i.reader i.refusal → (q ≡ 0 → ⊥) → TextNumber i.refusal → Named q
+unfolding end_of
+some_named i q e z h = named_by q (subst TextNumber (sym e) (when_either TextNumber _ _ _ (text_named _) h)) z
+
+pub returns-then-refusal-eq0 : goal.returns-then-refusal-eq0
+returns-then-refusal-eq0 c = record { verdict = none_is _ _ c.ending-refusal.ensures c.if-refusal-eq0.true; named = λ h. tt }
 
 pub returns : goal.returns
 returns c =
-    let some : c.ending.result ≡ Some _ = search rules in
-    some_is c.args.intake _ _ some c.ending.ensures
+    record {
+      verdict = some_is c.args.intake _ c.ending-refusal.ensures c.if-refusal-eq0.false;
+      named = λ h. some_named c.args.intake _ c.ending-refusal.ensures c.if-refusal-eq0.false h;
+    }

@@ -6,14 +6,13 @@
 --   lent_enough          what is lent is not too little
 --
 -- Assumes nothing.
-use Rattle.std.specs.Prelude.{ℕ, zero, suc, ◌+◌, ◌-◌, ◌≤◌, ◌≡◌, false, List, [], ◌∷◌, eqb, take, drop}
+use Rattle.std.specs.Prelude.{ℕ, zero, suc, ◌+◌, ◌-◌, ◌≤◌, ◌≡◌, false, List, [], ◌∷◌, take, drop}
 use Rattle.std.proofs.Math.Nat.{sub-zero}
 use Rattle.std.proofs.Common.{arith, sym, ap, ap₂, ◌∙◌, length-drop, length-take-le, drop-drop, le-ltb}
 use Rattle.std.proofs.Math.Path.{subst}
 use Rattle.std.proofs.Math.ListN.{length}
 use Rattle.std.proofs.Math.Seq.{take-nil}
 use Rattle.choice.specs.When.{when_false, when_either}
-use Rattle.limits.specs.Number.{text_of}
 use Rattle.modes.specs.declared.Reader.{Reader}
 use Rattle.slots.specs.Slots.{room_needed}
 use Rattle.chains.specs.Index.{index_words}
@@ -50,7 +49,7 @@ module _ (N X u : List ℕ) (r : Reader) (R out : List ℕ) where
   unfolding feed_answer
   taken_within =
       when_either (λ (c : Came). c.taken ≤ length u) (too_scant (length R) (length X) (length out)) _ _ (omega arith)
-      (when_either (λ (c : Came). c.taken ≤ length u) (eqb (text_of r.refusal) 0) _ _ read_on_within (omega arith))
+      (when_either (λ (c : Came). c.taken ≤ length u) _ _ _ read_on_within (omega arith))
 
 pub lent_enough : (room index out : ℕ) → room_needed ≤ room → index_words ≤ index → 16 ≤ out → too_scant room index out ≡ false
 unfolding too_scant

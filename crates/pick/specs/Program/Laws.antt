@@ -12,7 +12,6 @@ use Rattle.std.proofs.Common.{arith, inl, inr, sym, ◌∙◌, subst, length-app
 use Rattle.std.proofs.Math.Path.{ap}
 use mathlib.Core.List.{List, [], ◌++◌}
 use Rattle.std.proofs.Math.Option.{Option}
-use Rattle.limits.specs.Number.{fault_of}
 use Rattle.meaning.specs.Stream.{document}
 use Rattle.meaning.specs.Standing.{listed}
 use Rattle.meaning.specs.Offering.{offering_all}
@@ -42,7 +41,7 @@ pub streamed_lined :
     {b : List ℕ} {file : File} {s : State} {E N : List ℕ} → FileOpened events_name file → FileClosed file → Streamed b file s E N →
     (f : Result Counts Refusal) →
     f ≡ finish s.session →
-    (text : List ℕ) (r : ℕ) → take r text ≡ line_of_end f s.taken (fault_of s.refusal) → EventsLined b text r
+    (text : List ℕ) (r : ℕ) → take r text ≡ line_of_end f s.taken s.refusal → EventsLined b text r
 streamed_lined {b} {file} {s} op cl st f e text r line =
     record {
       bytes = st.bytes;
@@ -50,7 +49,7 @@ streamed_lined {b} {file} {s} op cl st f e text r line =
       delivered = st.delivered;
       line =
           line
-          ∙ last_line_owed st.reached f e s.taken (fault_of s.refusal) st.going_on st.counted
+          ∙ last_line_owed st.reached f e s.taken s.refusal st.going_on st.counted
           ∙ ap (λ (x : Option ℕ). last_line_by x (decode b) (offering_all (decode b) st.bytes).events) st.refusal_so;
     }
 

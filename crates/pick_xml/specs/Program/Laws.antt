@@ -71,37 +71,37 @@ fault_some (Some r) e z = omega (arith, some_number r)
 -- the last line by its cases
 module _ (st : Stand) where
   pub line_refused :
-      (f : Result Counts Refusal) → f ≡ finish st.state.session → (fault_of st.state.refusal ≡ 0 → ⊥) →
-      line_of_end f st.state.taken (fault_of st.state.refusal) ≡ line_of st
+      (f : Result Counts Refusal) → f ≡ finish st.state.session → (st.state.refusal ≡ 0 → ⊥) →
+      line_of_end f st.state.taken st.state.refusal ≡ line_of st
   unfolding line_of
   line_refused f e z =
-      ap (λ (g : Result Counts Refusal). line_of_end g st.state.taken (fault_of st.state.refusal)) e
-      ∙ sym (when_false _ _ _ (ne_eqb (fault_of st.state.refusal) 0 z))
+      ap (λ (g : Result Counts Refusal). line_of_end g st.state.taken st.state.refusal) e
+      ∙ sym (when_false _ _ _ (ne_eqb st.state.refusal 0 z))
 
-  module _ (z : fault_of st.state.refusal ≡ 0) where
+  module _ (z : st.state.refusal ≡ 0) where
     pub line_text :
         (v : Judged) → Some v ≡ verdict_for st.intake → refused_at_line v.refusal v.at ≡ line_of st
     unfolding line_of
     line_text v e =
-        ap (text_line (line_of_end (finish st.state.session) st.state.taken (fault_of st.state.refusal))) e
-        ∙ sym (when_true _ _ _ (eq-eqb (fault_of st.state.refusal) 0 z))
+        ap (text_line (line_of_end (finish st.state.session) st.state.taken st.state.refusal)) e
+        ∙ sym (when_true _ _ _ (eq-eqb st.state.refusal 0 z))
 
     pub line_finish :
         (f : Result Counts Refusal) → f ≡ finish st.state.session → None ≡ verdict_for st.intake →
-        line_of_end f st.state.taken (fault_of st.state.refusal) ≡ line_of st
+        line_of_end f st.state.taken st.state.refusal ≡ line_of st
     unfolding line_of
     line_finish f h e =
-        ap (λ (g : Result Counts Refusal). line_of_end g st.state.taken (fault_of st.state.refusal)) h
-        ∙ ap (text_line (line_of_end (finish st.state.session) st.state.taken (fault_of st.state.refusal))) e
-        ∙ sym (when_true _ _ _ (eq-eqb (fault_of st.state.refusal) 0 z))
+        ap (λ (g : Result Counts Refusal). line_of_end g st.state.taken st.state.refusal) h
+        ∙ ap (text_line (line_of_end (finish st.state.session) st.state.taken st.state.refusal)) e
+        ∙ sym (when_true _ _ _ (eq-eqb st.state.refusal 0 z))
 
 module _ {b N X : List ℕ} {file : File} {st : Stand} {E M : List ℕ} (p : Picked b N X file st E M) where
   abbrev w : Offering
   w = offered_text b (number_of N X) p.text
 
-  finish_line_lem : line_of_end (finish st.state.session) st.state.taken (fault_of st.state.refusal) ≡ last_line_by w.refusal (decode b) w.events
+  finish_line_lem : line_of_end (finish st.state.session) st.state.taken st.state.refusal ≡ last_line_by w.refusal (decode b) w.events
   finish_line_lem =
-      last_line_owed p.reached (finish st.state.session) refl st.state.taken (fault_of st.state.refusal) p.going_on p.counted
+      last_line_owed p.reached (finish st.state.session) refl st.state.taken st.state.refusal p.going_on p.counted
       ∙ ap (λ (x : Option ℕ). last_line_by x (decode b) w.events) p.refusal_so
 
   by_refusal : (v : Perhaps Judged) (o : Option ℕ) → (o ≡ none → ⊥) → last_line_by o (decode b) w.events ≡ last_line_for o (decode b) w.events v
@@ -109,48 +109,48 @@ module _ {b N X : List ℕ} {file : File} {st : Stand} {E M : List ℕ} (p : Pic
   by_refusal v none f = absurd (f refl)
   by_refusal v (some r) f = refl
 
-  refused_some : (fault_of st.state.refusal ≡ 0 → ⊥) → w.refusal ≡ none → ⊥
+  refused_some : (st.state.refusal ≡ 0 → ⊥) → w.refusal ≡ none → ⊥
   unfolding refusal_of
-  refused_some z e = go (fault_of st.state.refusal) z (p.refusal_so ∙ e)
+  refused_some z e = go st.state.refusal z (p.refusal_so ∙ e)
     where
       go : (r : ℕ) → (r ≡ 0 → ⊥) → refusal_of r ≡ none → ⊥
       go ℕ.zero f e = f refl
       go (ℕ.suc r) f e = let y : ◌≡◌ {A = ℕ} 0 1 = cc in omega arith
 
-  none_refused : fault_of st.state.refusal ≡ 0 → w.refusal ≡ none
+  none_refused : st.state.refusal ≡ 0 → w.refusal ≡ none
   unfolding refusal_of
-  none_refused z = sym p.refusal_so ∙ ap refusal_of {x = (fault_of st.state.refusal)} {y = 0} z
+  none_refused z = sym p.refusal_so ∙ ap refusal_of {x = st.state.refusal} {y = 0} z
 
   last_owed : line_of st ≡ last_line_for w.refusal (decode b) w.events (text_verdict p.text)
   unfolding last_line_for last_line_by
-  last_owed = go (ℕ_discrete (fault_of st.state.refusal) 0)
+  last_owed = go (ℕ_discrete st.state.refusal 0)
     where
       by_text :
-          (z : fault_of st.state.refusal ≡ 0) (v : Perhaps Judged) → v ≡ verdict_for st.intake → line_of st ≡ last_line_for none (decode b) w.events v
+          (z : st.state.refusal ≡ 0) (v : Perhaps Judged) → v ≡ verdict_for st.intake → line_of st ≡ last_line_for none (decode b) w.events v
       by_text z None e =
           sym (line_finish st z (finish st.state.session) refl e)
           ∙ finish_line_lem
           ∙ ap (λ (x : Option ℕ). last_line_by x (decode b) w.events) (none_refused z)
       by_text z (Some v) e = sym (line_text st z v e)
 
-      go : Dec (fault_of st.state.refusal ≡ 0) → line_of st ≡ last_line_for w.refusal (decode b) w.events (text_verdict p.text)
+      go : Dec (st.state.refusal ≡ 0) → line_of st ≡ last_line_for w.refusal (decode b) w.events (text_verdict p.text)
       go (yes z) =
           by_text z (verdict_for st.intake) refl
           ∙ ap₂ (λ (o : Option ℕ) (v : Perhaps Judged). last_line_for o (decode b) w.events v) (sym (none_refused z)) (p.verdict_so z)
       go (no z) = sym (line_refused st (finish st.state.session) refl z) ∙ finish_line_lem ∙ by_refusal (text_verdict p.text) w.refusal (refused_some z)
 
   -- where an event was refused the text's verdict does not matter
-  any_verdict : (fault_of st.state.refusal ≡ 0 → ⊥) → (u v : Perhaps Judged) → written_for (decode b) w u ≡ written_for (decode b) w v
+  any_verdict : (st.state.refusal ≡ 0 → ⊥) → (u v : Perhaps Judged) → written_for (decode b) w u ≡ written_for (decode b) w v
   any_verdict z u v =
       ap (λ (l : List ℕ). lines_of (listed (decode b) (document w.events)) ++ l)
       (sym (by_refusal u w.refusal (refused_some z)) ∙ by_refusal v w.refusal (refused_some z))
 
   same_owed :
-      (longer : List ℕ) → SamePicked b (number_of N X) p.text longer (fault_of st.state.refusal)
+      (longer : List ℕ) → SamePicked b (number_of N X) p.text longer st.state.refusal
       → picked_by b (number_of N X) longer ≡ picked_by b (number_of N X) p.text
-  same_owed longer s = ap (λ (o : Offering). written_for (decode b) o (text_verdict longer)) s.same_offered ∙ go (ℕ_discrete (fault_of st.state.refusal) 0)
+  same_owed longer s = ap (λ (o : Offering). written_for (decode b) o (text_verdict longer)) s.same_offered ∙ go (ℕ_discrete st.state.refusal 0)
     where
-      go : Dec (fault_of st.state.refusal ≡ 0) → written_for (decode b) w (text_verdict longer) ≡ written_for (decode b) w (text_verdict p.text)
+      go : Dec (st.state.refusal ≡ 0) → written_for (decode b) w (text_verdict longer) ≡ written_for (decode b) w (text_verdict p.text)
       go (yes z) = ap (written_for (decode b) w) (s.same_verdict z)
       go (no z) = any_verdict z (text_verdict longer) (text_verdict p.text)
 
@@ -166,7 +166,7 @@ module _ {b N X : List ℕ} {file : File} {st : Stand} {E M : List ℕ} (p : Pic
       }
     where
       by_end :
-          ReadOver file ⊎ ((longest ≤ length p.text) ⊎ ((more : List ℕ) → SamePicked b (number_of N X) p.text (p.text ++ more) (fault_of st.state.refusal)))
+          ReadOver file ⊎ ((longest ≤ length p.text) ⊎ ((more : List ℕ) → SamePicked b (number_of N X) p.text (p.text ++ more) st.state.refusal))
           → ReadOver file
           ⊎ ((longest ≤ length p.text) ⊎ ((more : List ℕ) → picked_by b (number_of N X) (p.text ++ more) ≡ picked_by b (number_of N X) p.text))
       by_end (inl x) = inl x

@@ -36,4 +36,4 @@ pub returns : goal.returns
 unfolding read_on
 returns c =
     let a = c.args in
-    (sym (left_done a.names.now a.index.now a.text.now _ _ c.loop-marks.invariant.4 (sym c.more.ensures ∙ c.loop-marks-test.false)), refl)
+    (sym (left_done a.names.now a.index.now a.text.now _ _ c.loop-marks.invariant.4 (sym c.more.ensures ∙ c.loop-marks-test.false)), c.refusal_of.ensures)

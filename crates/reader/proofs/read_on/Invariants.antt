@@ -4,7 +4,6 @@ use mathlib.Core.Path.{◌≡◌}
 use mir.Val.{bool_byte}
 use lib.Dec.{eqb}
 use lib.ListN.{length}
-use Rattle.limits.specs.Number.{text_of}
 use Rattle.reader.specs.Fed.{begun_with}
 use Rattle.reader.specs.Fed.Laws.{Left}
 use Rattle.reader.proofs.read_on.Given as goal
@@ -19,4 +18,4 @@ invariant-loop-marks l =
     (record { reader = l.r; at = l.at; room = l.room; out = l.out; written = l.written })
 
 abbrev pub decreases-loop-marks : goal.decreases-loop-marks
-decreases-loop-marks l = 2 * (length l.text - l.at) + bool_byte (eqb (text_of l.r.refusal) 0)
+decreases-loop-marks l = 2 * (length l.text - l.at) + bool_byte (eqb l.r.refusal 0)

@@ -12,7 +12,6 @@ use Rattle.std.proofs.Math.Path.{ap, subst}
 use mir.Val.{bool_byte}
 use Rattle.choice.specs.When.{when, when_true, when_false, never}
 use Rattle.chars.specs.Table.{marks_table}
-use Rattle.limits.specs.Number.{text_of}
 use Rattle.modes.specs.declared.Reader.{Reader}
 use Rattle.walk.specs.Turn.{Turned, turned}
 use Rattle.walk.proofs.Within.{turned_within, turned_on}
@@ -38,7 +37,7 @@ module _ (names x t : List ℕ) where
   -- what is left to do from g on is what there was to do from g₀ on
   pub record Left (g₀ g : Going) : Type 0 where
     pub turns : ℕ
-    pub enough : text_of g.reader.refusal ≡ 0 → length t ≤ g.at + turns
+    pub enough : g.reader.refusal ≡ 0 → length t ≤ g.at + turns
     pub same : read_for (suc (length t)) names x marks_table t g₀ ≡ read_for (suc turns) names x marks_table t g
 
   pub left_begin : (r : Reader) (R out : List ℕ) → Left (begun_with r R out) (begun_with r R out)
@@ -49,7 +48,7 @@ module _ (names x t : List ℕ) where
   left_done g₀ g l e = l.same ∙ when_false _ _ g e
 
   module _ (g₀ g : Going) (l : Left g₀ g) (e : goes_on t g ≡ true) (a : g.at ≤ length t) where
-    more : More (text_of g.reader.refusal) g.at (length t) g.written (length g.out)
+    more : More g.reader.refusal g.at (length t) g.written (length g.out)
     more = more_is _ _ _ _ _ e
 
     spare : (k : ℕ) → length t ≤ g.at + k → k ≡ suc (k - 1)
@@ -75,20 +74,20 @@ module _ (names x t : List ℕ) where
       at_within = subst (λ z. z.at ≤ length t) (sym p) (turned_within marks_table g.reader t g.at g.room a).1
 
       -- a turn that is not refused goes on, and one that is refused is the last
-      pub less : 2 * (length t - T.at) + bool_byte (eqb (text_of T.reader.refusal) 0) < 2 * (length t - g.at) + bool_byte (eqb (text_of g.reader.refusal) 0)
-      less = go (eqb (text_of T.reader.refusal) 0) refl
+      pub less : 2 * (length t - T.at) + bool_byte (eqb T.reader.refusal 0) < 2 * (length t - g.at) + bool_byte (eqb g.reader.refusal 0)
+      less = go (eqb T.reader.refusal 0) refl
         where
           within : (g.at ≤ T.at) × (T.at ≤ length t)
           within = subst (λ z. (g.at ≤ z.at) × (z.at ≤ length t)) (sym p) (turned_within marks_table g.reader t g.at g.room a)
 
-          before : bool_byte (eqb (text_of g.reader.refusal) 0) ≡ 1
+          before : bool_byte (eqb g.reader.refusal 0) ≡ 1
           before = ap bool_byte (eq-eqb _ 0 more.unrefused)
 
           go :
-              (b : Bool) → eqb (text_of T.reader.refusal) 0 ≡ b
-              → 2 * (length t - T.at) + bool_byte b < 2 * (length t - g.at) + bool_byte (eqb (text_of g.reader.refusal) 0)
+              (b : Bool) → eqb T.reader.refusal 0 ≡ b
+              → 2 * (length t - T.at) + bool_byte b < 2 * (length t - g.at) + bool_byte (eqb g.reader.refusal 0)
           go true f =
-              let on = turned_on marks_table g.reader t g.at g.room a more.there (subst (λ z. text_of z.reader.refusal ≡ 0) p (eqb-true _ 0 f)) in
+              let on = turned_on marks_table g.reader t g.at g.room a more.there (subst (λ z. z.reader.refusal ≡ 0) p (eqb-true _ 0 f)) in
               let on' : g.at < T.at = subst (λ z. g.at < z.at) (sym p) on in
               omega (arith, before, within.1)
           go false f = omega (arith, before, within.0, within.1, more.there)

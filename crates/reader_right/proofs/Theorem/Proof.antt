@@ -145,10 +145,10 @@ module _ (N X : List ℕ) where
           d.1),
     )
 
-    unended_so : (text_of a.refusal ≡ 0 → ⊥) → (text_of a.refusal ≡ 44) × (text_of a.reader.refusal ≡ 44)
+    unended_so : (text_of a.refusal ≡ 0 → ⊥) → (text_of a.refusal ≡ 44) × (a.reader.refusal ≡ 44)
     unended_so wrong =
         let k = finish_stops N X t r R h.es h.read (λ e. wrong (same_refusal ∙ e)) in
-        (same_refusal ∙ k.0, ap (λ (z : Finished). text_of z.reader.refusal) gives ∙ k.1)
+        (same_refusal ∙ k.0, ap (λ (z : Finished). z.reader.refusal) gives ∙ k.1)
 
   -- a feed
   module _ {t u R bs out out' : List ℕ} {r : Reader} {c : answered.Fed} (x : Feeds N X t u r R bs out c out') where
@@ -307,7 +307,7 @@ module _ (N X : List ℕ) where
       {S' out' : List ℕ} {r : Reader} {c : answered.Fed} (u S out : List ℕ)
       → FeedGives N X u r S out c S' out'
       → too_scant (length S) (length X) (length out) ≡ false
-      → (text_of r.refusal ≡ 0 → ⊥)
+      → (r.refusal ≡ 0 → ⊥)
       → (text_of c.refusal ≡ 46) × (c.reader ≡ r) × (c.taken ≡ 0) × (c.written ≡ 0) × (S' ≡ S) × (out' ≡ out)
   stopped_so {r = r} u S out gives lent wrong =
       let e = gives ∙ sym (feed_stopped N X u r S out lent wrong) in (

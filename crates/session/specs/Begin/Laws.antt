@@ -3,6 +3,7 @@
 --   session_beside     the session beside an answer
 --   begin_parts        the answer, and the session beside it
 --   room_told          the room is refused exactly where it is too small;  query_told: a query is refused as the check refuses it
+--   start_is           the room's answer, and then the query's;  started: by which laws a body of the cases is shown
 --   begin_short        the lent room is too small
 --   begin_admitted, begin_long, begin_broken      for each case of the check's answer: the answer and the session beside it
 --   begin_one          two results that the promise of `begin` allows are equal
@@ -74,6 +75,12 @@ unfolding said query.said
 query_told (Ok t) m h = ap said h
 query_told (Err f) (Ok t) h = absurd h
 query_told (Err f) (Err g) h = ap (λ (x : StartFault). said (Err x)) h
+
+pub start_is : (q E N : List ℕ) → start_answer q E N ≡ when (too_small (length E) (length N)) (refused short_room) (answer_to q)
+unfolding start_answer
+start_is q E N = refl
+
+pub ruleset started = (room_told, start_is)
 
 -- for each way to begin
 

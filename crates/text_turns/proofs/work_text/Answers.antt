@@ -85,6 +85,7 @@ returns c =
     record {
       few = progress_few (u.worked begun.query begun.begun).offered;
       short = omega (arith, u.in_text.few);
+      named = u.in_text.named;
       picked =
           λ t b o. over_picked _ _ _ _ _ _ _ _ _ _ u b (begun_for_as _ _ b same o) t (done_is _ _ stop t);
       failed = λ t. (u.worked begun.query begun.begun).failed t;

@@ -10,7 +10,7 @@
 -- Assumes nothing.
 use Prim.Native.Nat.{ℕ, zero, suc, ◌+◌, ◌-◌, ◌*◌, ◌/◌, ◌≤◌, ◌<◌}
 use Rattle.std.proofs.Common.{arith, inl, inr, ap₂, ◌∙◌, subst₂, length-append, length-drop, length-take-le, eqb-true}
-use Rattle.std.specs.Prelude.{◌⊎◌, ◌≡◌, Bool, None, not, eqb, length}
+use Rattle.std.specs.Prelude.{◌⊎◌, ◌≡◌, Bool, not, eqb, length}
 use Rattle.std.proofs.Math.Path.{refl, sym, ap, subst}
 use Rattle.std.proofs.Math.Bool.{true, false}
 use mathlib.Core.List.{List, [], ◌++◌}
@@ -22,7 +22,6 @@ use Rattle.std.proofs.lemmas.List.{drop-append-le}
 use Rattle.std.proofs.lemmas.Bool.{eqb-false}
 use Rattle.choice.specs.When.{when, when_true, when_false, when_known, never}
 use Rattle.choice.specs.Count.{positive, bool_byte_le}
-use Rattle.limits.specs.Number.{fault_of}
 use Rattle.meaning.specs.Limits.{node_limit, output_needed}
 use Rattle.meaning.specs.Refusals.{bad_record}
 use Rattle.meaning.specs.Query.{Query}
@@ -55,7 +54,7 @@ listed_none q = refl
 
 -- a turn that reads gives a byte or is the last; one that works takes an event, with its 8 bytes, or is the last
 abbrev pub measure : ℕ → State → List ℕ → ℕ
-measure L s input = 9 * (2 * node_limit - s.taken) + (L - length (unread s input)) + (bool_byte (eqb (fault_of s.refusal) 0) + bool_byte (not s.ended))
+measure L s input = 9 * (2 * node_limit - s.taken) + (L - length (unread s input)) + (bool_byte (eqb s.refusal 0) + bool_byte (not s.ended))
 
 -- what is known while there is more to do
 record Going (refusal : ℕ) (ended written : Bool) : Type 0 where
@@ -99,7 +98,7 @@ progress_as e f g o = rw (e, f, g) o
 
 pub begun_events :
     {b : List ℕ} (session : Session) (input E N : List ℕ) → Enough (housed session E N) → Of b (meaning.going []) (housed session E N) →
-    EventsSoFar b [] (record { session = session; from = 0; end = 0; taken = 0; refusal = None; ended = false; written = true }) input E N
+    EventsSoFar b [] (record { session = session; from = 0; end = 0; taken = 0; refusal = 0; ended = false; written = true }) input E N
 unfolding lines_of
 begun_events session input E N enough o =
     record {
@@ -113,7 +112,7 @@ begun_events session input E N enough o =
 
 pub begun_so_far :
     {b : List ℕ} (file : File) (session : Session) (input E N : List ℕ) → Enough (housed session E N) → Of b (meaning.going []) (housed session E N) →
-    TurnsSoFar b file (record { session = session; from = 0; end = 0; taken = 0; refusal = None; ended = false; written = true }) input E N
+    TurnsSoFar b file (record { session = session; from = 0; end = 0; taken = 0; refusal = 0; ended = false; written = true }) input E N
 begun_so_far file session input E N enough o =
     record {
       bytes = [];
@@ -131,8 +130,7 @@ unread_length s input w = length-take-le (s.end - s.from) (drop s.from input) (o
 
 -- a block of the records that are unread
 
-module _ {b bytes : List ℕ} (s : State) (input E N : List ℕ) (u : EventsSoFar b bytes s input E N) (unrefused : fault_of s.refusal ≡ 0)
-    (taking : s.written ≡ true)
+module _ {b bytes : List ℕ} (s : State) (input E N : List ℕ) (u : EventsSoFar b bytes s input E N) (unrefused : s.refusal ≡ 0) (taking : s.written ≡ true)
     (w : UnreadWithin s (length input)) where
   pub offered_so_far : Progress b [] bytes (housed s.session E N) s.taken 0 u.nodes
   offered_so_far = subst (λ (r : ℕ). Progress b [] bytes (housed s.session E N) s.taken r u.nodes) unrefused u.offered
@@ -167,7 +165,7 @@ module _ {b bytes : List ℕ} (s : State) (input E N : List ℕ) (u : EventsSoFa
         }
 
     -- only a whole record is refused
-    pub work_whole : (fault_of s'.refusal ≡ 0 → ⊥) → 8 * s'.taken + 8 ≤ length bytes
+    pub work_whole : (s'.refusal ≡ 0 → ⊥) → 8 * s'.taken + 8 ≤ length bytes
     work_whole z =
         omega
         (arith, told.whole (λ x. z (b'.refusal_so ∙ x)), ap length u.rest, length-drop (8 * s.taken) bytes, offered_so_far.within, b'.taken_so)
@@ -180,13 +178,13 @@ module _ {b bytes : List ℕ} (s : State) (input E N : List ℕ) (u : EventsSoFa
     work_within = told.offered.within
 
     -- with room enough an event is taken or refused
-    pub work_some : 8 ≤ s.end - s.from → output_needed ≤ length out → fault_of s'.refusal ≡ 0 → 0 < (block_of s input E N out).taken
+    pub work_some : 8 ≤ s.end - s.from → output_needed ≤ length out → s'.refusal ≡ 0 → 0 < (block_of s input E N out).taken
     work_some many room z = told.some (omega (arith, unread_length s input w)) room (sym b'.refusal_so ∙ z)
 
 module _ {b : List ℕ} {file : File} (s : State) (input E N : List ℕ) (u : TurnsSoFar b file s input E N)
-    (go : more_to_do (fault_of s.refusal) s.ended s.written ≡ true) (w : UnreadWithin s (length input)) where
-  g : Going (fault_of s.refusal) s.ended s.written
-  g = going (fault_of s.refusal) s.ended s.written go
+    (go : more_to_do s.refusal s.ended s.written ≡ true) (w : UnreadWithin s (length input)) where
+  g : Going s.refusal s.ended s.written
+  g = going s.refusal s.ended s.written go
 
   so_far : Progress b [] u.bytes (housed s.session E N) s.taken 0 u.events.nodes
   so_far = offered_so_far s input E N u.events g.unrefused g.taking w
@@ -261,7 +259,7 @@ module _ {b : List ℕ} {file : File} (s : State) (input E N : List ℕ) (u : Tu
 
   -- how much is still to come
 
-  flags : bool_byte (eqb (fault_of s.refusal) 0) + bool_byte (not s.ended) ≡ 2
+  flags : bool_byte (eqb s.refusal 0) + bool_byte (not s.ended) ≡ 2
   flags = ap₂ (λ (x : ℕ) (y : Bool). bool_byte (eqb x 0) + bool_byte (not y)) g.unrefused g.not_ended
 
   read_less :
@@ -278,15 +276,15 @@ module _ {b : List ℕ} {file : File} (s : State) (input E N : List ℕ) (u : Tu
       by : (e : Bool) → s'.ended ≡ e → measure L s' input' < measure L s input
       by true e =
           let last : bool_byte (not s'.ended) ≡ 0 = ap (λ (x : Bool). bool_byte (not x)) e in
-          omega (arith, flags, last, more, within, m.taken_same, bool_byte_le (eqb (fault_of s'.refusal) 0))
+          omega (arith, flags, last, more, within, m.taken_same, bool_byte_le (eqb s'.refusal 0))
       by false e =
           let some : 0 < length m.bytes = positive (length m.bytes) (eqb-false _ _ (sym m.ended_so ∙ e)) in
-          omega (arith, flags, some, more, within, m.taken_same, bool_byte_le (eqb (fault_of s'.refusal) 0), bool_byte_le (not s'.ended))
+          omega (arith, flags, some, more, within, m.taken_same, bool_byte_le (eqb s'.refusal 0), bool_byte_le (not s'.ended))
 
   work_less :
       (L : ℕ) (out : List ℕ) (s' : State) (E' N' : List ℕ) → L ≡ length input → 8 ≤ s.end - s.from → output_needed ≤ length out →
       Worked s input E N out s' E' N' → measure L s' input < measure L s input
-  work_less L out s' E' N' long many room x = by (eqb (fault_of s'.refusal) 0) refl
+  work_less L out s' E' N' long many room x = by (eqb s'.refusal 0) refl
     where
       left : length (unread s' input) ≡ length (unread s input) - 8 * (block_of s input E N out).taken
       left = work_left s input E N u.events g.unrefused g.taking w out s' E' N' x
@@ -300,13 +298,13 @@ module _ {b : List ℕ} {file : File} (s : State) (input E N : List ℕ) (u : Tu
         omega (arith, long, unread_length s input w, w.inside),
       )
 
-      by : (e : Bool) → eqb (fault_of s'.refusal) 0 ≡ e → measure L s' input < measure L s input
+      by : (e : Bool) → eqb s'.refusal 0 ≡ e → measure L s' input < measure L s input
       by true e =
           let some : 0 < (block_of s input E N out).taken =
           work_some s input E N u.events g.unrefused g.taking w out s' E' N' x many room (eqb-true _ _ e) in
-          omega (arith, flags, some, left, few, room_for.0, room_for.1, x.taken_so, bool_byte_le (eqb (fault_of s'.refusal) 0), bool_byte_le (not s'.ended))
+          omega (arith, flags, some, left, few, room_for.0, room_for.1, x.taken_so, bool_byte_le (eqb s'.refusal 0), bool_byte_le (not s'.ended))
       by false e =
-          let refused : bool_byte (eqb (fault_of s'.refusal) 0) ≡ 0 = ap bool_byte e in
+          let refused : bool_byte (eqb s'.refusal 0) ≡ 0 = ap bool_byte e in
           omega (arith, flags, refused, left, few, room_for.0, room_for.1, x.taken_so, bool_byte_le (not s'.ended))
 
   pub turn_less :
@@ -330,7 +328,7 @@ module _ {b : List ℕ} {file : File} {s : State} {input E N : List ℕ} (u : Tu
 
   -- the whole stream, by what offering it comes to
   streamed_as :
-      (w : Offering) → offering_all (decode b) u.bytes ≡ w → w.events ≡ u.events.offered.events → w.refusal ≡ refusal_of (fault_of s.refusal) →
+      (w : Offering) → offering_all (decode b) u.bytes ≡ w → w.events ≡ u.events.offered.events → w.refusal ≡ refusal_of s.refusal →
       ReadOver file ⊎ ((more : List ℕ) → offering_all (decode b) (u.bytes ++ more) ≡ offering_all (decode b) u.bytes) → s.written ≡ true →
       Streamed b file s E N
   streamed_as w e ev r end t =
@@ -352,23 +350,23 @@ module _ {b : List ℕ} {file : File} {s : State} {input E N : List ℕ} (u : Tu
       }
 
   refused_end :
-      (ended : Bool) → s.ended ≡ ended → (fault_of s.refusal ≡ 0 → ⊥) →
+      (ended : Bool) → s.ended ≡ ended → (s.refusal ≡ 0 → ⊥) →
       ReadOver file ⊎ ((more : List ℕ) → offering_all (decode b) (u.bytes ++ more) ≡ offering_all (decode b) u.bytes)
   refused_end true e z = inl (u.at_end e)
   refused_end false e z = inr (progress_same u.events.offered z (u.whole e z))
 
-  pub so_far_streamed : more_to_do (fault_of s.refusal) s.ended s.written ≡ false → s.written ≡ true → Streamed b file s E N
+  pub so_far_streamed : more_to_do s.refusal s.ended s.written ≡ false → s.written ≡ true → Streamed b file s E N
   unfolding more_to_do refusal_of
   so_far_streamed stop t =
-      when_known (λ (x : Bool). x ≡ false → Streamed b file s E N) (eqb (fault_of s.refusal) 0) _ _
+      when_known (λ (x : Bool). x ≡ false → Streamed b file s E N) (eqb s.refusal 0) _ _
       (λ z.
       when_known (λ (x : Bool). x ≡ false → Streamed b file s E N) s.ended _ _
       (λ e h.
       streamed_as _ (progress_all u.events.offered (eqb-true _ _ z) (u.over e (eqb-true _ _ z))) refl
-      (refusal_none (fault_of s.refusal) (eqb-true _ _ z)) (inl (u.at_end e)) t)
+      (refusal_none s.refusal (eqb-true _ _ z)) (inl (u.at_end e)) t)
       (λ e h. never (sym h ∙ t)))
       (λ z h.
-      streamed_as _ (progress_refused u.events.offered (eqb-false _ _ z)) refl (refusal_some (fault_of s.refusal) (eqb-false _ _ z))
+      streamed_as _ (progress_refused u.events.offered (eqb-false _ _ z)) refl (refusal_some s.refusal (eqb-false _ _ z))
       (refused_end s.ended refl (eqb-false _ _ z)) t)
       stop
     where

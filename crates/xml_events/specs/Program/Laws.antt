@@ -16,7 +16,6 @@ use mathlib.Core.List.{List, [], ◌++◌}
 use Rattle.std.proofs.Math.Dec.{eqb}
 use borrow.Author.Tests.{eqb-true, eqb-false, eq-eqb, ne_eqb}
 use Rattle.choice.specs.When.{when_true, when_false, when_known, never}
-use Rattle.limits.specs.Number.{text_of}
 use Rattle.xml.specs.Grammar.{Ev}
 use Rattle.xml.specs.Numbered.{numbered}
 use Rattle.listed.specs.Listed.{Listing, list_answer}
@@ -76,11 +75,11 @@ going refusal ended written =
 -- one turn more
 
 module _ {N X : List ℕ} {file : File} {i : Intake} {input R : List ℕ} {w : Bool} (s : SoFar N X file i input R w)
-    (go : more_to_do (text_of i.refusal) i.ended w ≡ true) (out : List ℕ) (indexed : index_words ≤ length X) (long-room : length R ≡ 18496)
+    (go : more_to_do i.refusal i.ended w ≡ true) (out : List ℕ) (indexed : index_words ≤ length X) (long-room : length R ≡ 18496)
     (long-out : length out ≡ 32768) (long : length input ≡ 65536) (i' : Intake) (input' R' out' : List ℕ) (long' : length input' ≡ 65536)
     (a : Advanced N X file i input R out i' input' R' out') where
-  abbrev g : Going (text_of i.refusal) i.ended w
-  g = going (text_of i.refusal) i.ended w go
+  abbrev g : Going i.refusal i.ended w
+  g = going i.refusal i.ended w go
 
   lent : too_scant (length R) (length X) (length out) ≡ false
   lent = lent_enough (length R) (length X) (length out) (omega (arith, room_is, long-room)) indexed (omega arith)
@@ -127,13 +126,13 @@ over_by refusal ended written h t =
     (λ z k. inl (eqb-false _ _ z)) h
 
 pub so_far_written :
-    {N X : List ℕ} {file : File} {i : Intake} {input R : List ℕ} {w : Bool} → SoFar N X file i input R w → more_to_do (text_of i.refusal) i.ended w ≡ false →
+    {N X : List ℕ} {file : File} {i : Intake} {input R : List ℕ} {w : Bool} → SoFar N X file i input R w → more_to_do i.refusal i.ended w ≡ false →
     w ≡ true → ReadAll N X file i
 so_far_written {i = i} {w = w} s stop t =
     record {
       few = so_far_few s;
       events = s.events;
-      told = text_told s.in_text (over_by (text_of i.refusal) i.ended w stop t);
+      told = text_told s.in_text (over_by i.refusal i.ended w stop t);
       delivered = s.delivered_so t;
     }
 

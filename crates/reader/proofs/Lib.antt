@@ -1,0 +1,2 @@
+-- The proofs of crate reader.
+pub mod Told

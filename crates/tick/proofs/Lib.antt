@@ -1,0 +1,2 @@
+-- The proofs of crate tick.
+pub mod Told
