@@ -10,7 +10,7 @@
 --   finish_answer r                 the end of the text: 46 for a stopped reader, 0 for a whole document, else 44 and stopped
 --   BeginGives r, FeedGives .. c R' out', FinishGives r f      THE PROMISES of `begin`, `feed` and `finish`: what they answer, and the room and the output on
 --                                  return, are that
---   is_stopped, is_not_stopped     by the test of the code whether a reader is stopped
+--   is_stopped, is_not_stopped     a refusal that may be none has the number 0 exactly where there is none
 --   index_is                       how many words of index a feed needs;  room_short, index_short, out_short: less is lent;  all_lent: as much as it needs
 --   feed_scant, feed_stopped, feed_read      a feed by its cases;  enough: what is known where it is not scant
 --
@@ -125,7 +125,7 @@ FeedGives names x t r R out c R' out' =
 abbrev pub FinishGives : Reader → Finished → Type 0
 FinishGives r f = f ≡ finish_answer r
 
--- a reader that is stopped, and one that is not
+-- a refusal that there is, and one that is none
 pub is_stopped : (o : Option TextRefusal) → is_some o ≡ true → text_of o ≡ 0 → ⊥
 is_stopped None h e = cc
 is_stopped (Some x) h e =

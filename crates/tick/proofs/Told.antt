@@ -10,7 +10,7 @@
 -- Assumes nothing.
 use Rattle.std.specs.Prelude.{ℕ, ◌+◌, ◌≡◌, refl, Bool, true, false, List}
 use Rattle.std.proofs.Common.{sym, ap, ◌∙◌}
-use Rattle.choice.specs.When.{when}
+use Rattle.choice.specs.When.{when, when_either}
 use Rattle.limits.specs.declared.TextRefusal.{TextRefusal}
 use Rattle.limits.specs.declared.TextRefusal.TheVariants.{Misplaced, NotChar, Doctype, Instruction, Cdata, CharReference, OtherEntity, LongName}
 use Rattle.limits.specs.declared.TextRefusal.TheVariants.{ManyAttributes, Twice, OtherEnd, Nested, OtherEncoding, ForeignName, Unended, Scant, ReaderStopped}
@@ -68,14 +68,10 @@ stops : {r : Reader} (x : TextRefusal) → r.refusal ≡ text_number x → Told 
 stops x e = record { back = ap (λ n. text_of (text_at n)) e ∙ number_told x ∙ sym e }
 
 either : (t : Bool) (a b : Reader) → Told a → Told b → Told (when t a b)
-unfolding when
-either true a b p q = p
-either false a b p q = q
+either = when_either Told
 
 either_kept : (t : Bool) (a b : Ticked) → Told a.reader → Told b.reader → Told (when t a b).reader
-unfolding when
-either_kept true a b p q = p
-either_kept false a b p q = q
+either_kept = when_either (λ (x : Ticked). Told x.reader)
 
 -- in the prolog
 
