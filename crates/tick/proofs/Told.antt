@@ -75,7 +75,7 @@ either_kept = when_either (λ (x : Ticked). Told x.reader)
 
 -- in the prolog
 
-around_told : (M : List ℕ) (r : Reader) (b : ℕ) (next : Mode) → Told (around M r b next)
+pub around_told : (M : List ℕ) (r : Reader) (b : ℕ) (next : Mode) → Told (around M r b next)
 unfolding around
 around_told M r b next = either _ _ _ (on refl) (either _ _ _ (on refl) (stops Misplaced refl))
 
@@ -136,31 +136,31 @@ part_quoted_told r b quote = either _ _ _ (stops Misplaced refl) (quoted_in_told
 
 -- in character data, comments and entities
 
-wide_tick_told : (r : Reader) (b : ℕ) (back : Mode) → Told (wide_tick r b back)
+pub wide_tick_told : (r : Reader) (b : ℕ) (back : Mode) → Told (wide_tick r b back)
 unfolding wide_tick
 wide_tick_told r b back = either _ _ _ (stops NotChar refl) (on refl)
 
-char_tick_told : (r : Reader) (b : ℕ) → Told (char_tick r b)
+pub char_tick_told : (r : Reader) (b : ℕ) → Told (char_tick r b)
 unfolding char_tick
 char_tick_told r b = either _ _ _ (stops NotChar refl) (either _ _ _ (on refl) (on refl))
 
-data_tick_told : (M : List ℕ) (r : Reader) (b : ℕ) (next : Mode) (shut : Bool) → Told (data_tick M r b next shut)
+pub data_tick_told : (M : List ℕ) (r : Reader) (b : ℕ) (next : Mode) (shut : Bool) → Told (data_tick M r b next shut)
 unfolding data_tick
 data_tick_told M r b next shut =
     either _ _ _ (on refl) (either _ _ _ (on refl) (either _ _ _ (on refl) (either _ _ _ (on refl) (either _ _ _
     (either _ _ _ (stops Misplaced refl) (on refl)) (wide_tick_told r b mode.Data)))))
 
-bang_tick_told : (r : Reader) (b : ℕ) → Told (bang_tick r b)
+pub bang_tick_told : (r : Reader) (b : ℕ) → Told (bang_tick r b)
 unfolding bang_tick
 bang_tick_told r b =
     either _ _ _ (stops Misplaced refl) (either _ _ _ (either _ _ _ (on refl) (on refl)) (either _ _ _ (either _ _ _ (stops Cdata refl)
     (either _ _ _ (stops Doctype refl) (stops Misplaced refl))) (stops Misplaced refl)))
 
-note_tick_told : (M : List ℕ) (r : Reader) (b : ℕ) (next : Mode) → Told (note_tick M r b next)
+pub note_tick_told : (M : List ℕ) (r : Reader) (b : ℕ) (next : Mode) → Told (note_tick M r b next)
 unfolding note_tick
 note_tick_told M r b next = either _ _ _ (on refl) (either _ _ _ (on refl) (wide_tick_told r b mode.Note))
 
-remarked_tick_told : (r : Reader) (b : ℕ) → Told (remarked_tick r b)
+pub remarked_tick_told : (r : Reader) (b : ℕ) → Told (remarked_tick r b)
 unfolding remarked_tick
 remarked_tick_told r b = either _ _ _ (either _ _ _ (on refl) (either _ _ _ (on refl) (on refl))) (stops Misplaced refl)
 
@@ -168,7 +168,7 @@ entity_tick_told : (r : Reader) (b : ℕ) → Told (entity_tick r b)
 unfolding entity_tick
 entity_tick_told r b = either _ _ _ (stops OtherEntity refl) (either _ _ _ (on refl) (either _ _ _ (stops OtherEntity refl) (on refl)))
 
-amper_tick_told : (r : Reader) (b : ℕ) → Told (amper_tick r b)
+pub amper_tick_told : (r : Reader) (b : ℕ) → Told (amper_tick r b)
 unfolding amper_tick
 amper_tick_told r b = either _ _ _ (either _ _ _ (stops CharReference refl) (entity_tick_told r b)) (entity_tick_told r b)
 
@@ -182,14 +182,14 @@ slashed_tick_told : (r : Reader) → Told (slashed_tick r)
 unfolding slashed_tick
 slashed_tick_told r = either _ _ _ (stops Misplaced refl) (either _ _ _ (stops Misplaced refl) (on refl))
 
-markup_tick_told : (M : List ℕ) (r : Reader) (b : ℕ) (R : List ℕ) → Told (markup_tick M r b R).reader
+pub markup_tick_told : (M : List ℕ) (r : Reader) (b : ℕ) (R : List ℕ) → Told (markup_tick M r b R).reader
 unfolding markup_tick
 markup_tick_told M r b R =
     either_kept _ _ _ (begun_told r b R) (either_kept _ _ _ (on refl) (either_kept _ _ _ (slashed_tick_told r)
     (either_kept _ _ _ (stops Instruction refl) (either_kept _ _ _ (stops Misplaced refl)
     (either_kept _ _ _ (stops Misplaced refl) (stops ForeignName refl))))))
 
-first_tick_told : (M : List ℕ) (r : Reader) (b : ℕ) (R : List ℕ) → Told (first_tick M r b R).reader
+pub first_tick_told : (M : List ℕ) (r : Reader) (b : ℕ) (R : List ℕ) → Told (first_tick M r b R).reader
 unfolding first_tick
 first_tick_told M r b R = either_kept _ _ _ (on refl) (markup_tick_told M r b R)
 
@@ -201,13 +201,13 @@ tag_end_told : (r : Reader) (b : ℕ) → Told (tag_end r b)
 unfolding tag_end
 tag_end_told r b = either _ _ _ (on refl) (either _ _ _ (either _ _ _ (stops Misplaced refl) (on refl)) (stops Misplaced refl))
 
-tag_tick_told : (M : List ℕ) (r : Reader) (b : ℕ) (R : List ℕ) → Told (tag_tick M r b R).reader
+pub tag_tick_told : (M : List ℕ) (r : Reader) (b : ℕ) (R : List ℕ) → Told (tag_tick M r b R).reader
 unfolding tag_tick
 tag_tick_told M r b R =
     either_kept _ _ _ (name_byte_told r b R r.place mode.Tag) (either_kept _ _ _ (on refl) (either_kept _ _ _ (stops ForeignName refl)
     (either_kept _ _ _ (tag_end_told r b) (either_kept _ _ _ (tag_end_told r b) (stops Misplaced refl)))))
 
-tagged_tick_told : (M : List ℕ) (r : Reader) (b : ℕ) → Told (tagged_tick M r b)
+pub tagged_tick_told : (M : List ℕ) (r : Reader) (b : ℕ) → Told (tagged_tick M r b)
 unfolding tagged_tick
 tagged_tick_told M r b = either _ _ _ (on refl) (tag_end_told r b)
 
@@ -215,7 +215,7 @@ att_begun_told : (r : Reader) (b : ℕ) (R : List ℕ) → Told (att_begun r b R
 unfolding att_begun
 att_begun_told r b R = either_kept _ _ _ (stops ManyAttributes refl) (on refl)
 
-gap_tick_told : (M : List ℕ) (r : Reader) (b : ℕ) (R : List ℕ) → Told (gap_tick M r b R).reader
+pub gap_tick_told : (M : List ℕ) (r : Reader) (b : ℕ) (R : List ℕ) → Told (gap_tick M r b R).reader
 unfolding gap_tick
 gap_tick_told M r b R =
     either_kept _ _ _ (att_begun_told r b R) (either_kept _ _ _ (on refl) (either_kept _ _ _ (stops ForeignName refl) (tag_end_told r b)))
@@ -224,17 +224,17 @@ named_tick_told : (r : Reader) (R : List ℕ) (m : Mode) → Told (named_tick r 
 unfolding named_tick
 named_tick_told r R m = either_kept _ _ _ (stops Misplaced refl) (either_kept _ _ _ (stops Twice refl) (on refl))
 
-att_tick_told : (M : List ℕ) (r : Reader) (b : ℕ) (R : List ℕ) → Told (att_tick M r b R).reader
+pub att_tick_told : (M : List ℕ) (r : Reader) (b : ℕ) (R : List ℕ) → Told (att_tick M r b R).reader
 unfolding att_tick
 att_tick_told M r b R =
     either_kept _ _ _ (name_byte_told r b R (attribute_slot + r.count) mode.Att) (either_kept _ _ _ (named_tick_told r R mode.Equals)
     (either_kept _ _ _ (named_tick_told r R mode.Value) (either_kept _ _ _ (stops ForeignName refl) (stops Misplaced refl))))
 
-equals_tick_told : (M : List ℕ) (r : Reader) (b : ℕ) → Told (equals_tick M r b)
+pub equals_tick_told : (M : List ℕ) (r : Reader) (b : ℕ) → Told (equals_tick M r b)
 unfolding equals_tick
 equals_tick_told M r b = either _ _ _ (on refl) (either _ _ _ (on refl) (stops Misplaced refl))
 
-value_tick_told : (M : List ℕ) (r : Reader) (b : ℕ) → Told (value_tick M r b)
+pub value_tick_told : (M : List ℕ) (r : Reader) (b : ℕ) → Told (value_tick M r b)
 unfolding value_tick
 value_tick_told M r b = either _ _ _ (on refl) (either _ _ _ (on refl) (either _ _ _ (on refl) (stops Misplaced refl)))
 
@@ -242,7 +242,7 @@ att_ended_told : (r : Reader) → Told (att_ended r)
 unfolding att_ended
 att_ended_told r = either _ _ _ (stops Misplaced refl) (on refl)
 
-quoted_tick_told : (M : List ℕ) (r : Reader) (b mark q : ℕ) → Told (quoted_tick M r b mark q)
+pub quoted_tick_told : (M : List ℕ) (r : Reader) (b mark q : ℕ) → Told (quoted_tick M r b mark q)
 unfolding quoted_tick
 quoted_tick_told M r b mark q =
     either _ _ _ (on refl) (either _ _ _ (att_ended_told r) (either _ _ _ (on refl)
@@ -250,7 +250,7 @@ quoted_tick_told M r b mark q =
 
 -- in end tags
 
-emptied_tick_told : (r : Reader) (b : ℕ) → Told (emptied_tick r b)
+pub emptied_tick_told : (r : Reader) (b : ℕ) → Told (emptied_tick r b)
 unfolding emptied_tick
 emptied_tick_told r b = either _ _ _ (either _ _ _ (on refl) (on refl)) (stops Misplaced refl)
 
@@ -258,7 +258,7 @@ closed_told : (r : Reader) → Told (closed r)
 unfolding closed
 closed_told r = either _ _ _ (on refl) (on refl)
 
-ended_tick_told : (M : List ℕ) (r : Reader) (b : ℕ) → Told (ended_tick M r b)
+pub ended_tick_told : (M : List ℕ) (r : Reader) (b : ℕ) → Told (ended_tick M r b)
 unfolding ended_tick
 ended_tick_told M r b = either _ _ _ (on refl) (either _ _ _ (closed_told r) (stops Misplaced refl))
 
@@ -266,13 +266,13 @@ whole_tick_told : (M : List ℕ) (r : Reader) (b : ℕ) → Told (whole_tick M r
 unfolding whole_tick
 whole_tick_told M r b = either _ _ _ (stops OtherEnd refl) (either _ _ _ (stops OtherEnd refl) (ended_tick_told M r b))
 
-end_tick_told : (M : List ℕ) (r : Reader) (b : ℕ) (R : List ℕ) → Told (end_tick M r b R)
+pub end_tick_told : (M : List ℕ) (r : Reader) (b : ℕ) (R : List ℕ) → Told (end_tick M r b R)
 unfolding end_tick
 end_tick_told M r b R = either _ _ _ (stops Misplaced refl) (either _ _ _ (whole_tick_told M r b) (either _ _ _ (on refl) (stops OtherEnd refl)))
 
 -- in each mode
 
-prolog_told : (p : Prolog) (M : List ℕ) (r : Reader) (b : ℕ) → Told (prolog_tick p M r b)
+pub prolog_told : (p : Prolog) (M : List ℕ) (r : Reader) (b : ℕ) → Told (prolog_tick p M r b)
 unfolding prolog_tick
 prolog_told prolog.Start M r b = start_tick_told M r b
 prolog_told prolog.Mark M r b = mark_tick_told r b
