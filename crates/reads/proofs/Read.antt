@@ -1,12 +1,13 @@
 -- The state after a read, over what the calls answered.
 --
 --   left_over      what is left over has moved to the start
---   read_so        the state after a read
+--   read_so_moved  the state after a read;  read_so: the same where the library's `copy_within` moved what is left over
 --   read_nothing, read_some      a read that gave nothing, and one that gave bytes
 --
 -- What is large is given explicitly. Assumes nothing.
 use Rattle.std.specs.Prelude.{ℕ, ◌+◌, ◌-◌, ◌<◌, ◌≡◌, refl, true, false, List, ◌++◌, eqb, length, take, drop}
-use Rattle.std.proofs.Common.{arith, sym, ap, ◌∙◌, eqb-true, eq-eqb, ne_eqb, length-drop, length-take-le}
+use Rattle.std.specs.List.{copy_within}
+use Rattle.std.proofs.Common.{arith, sym, ap, ◌∙◌, eqb-true, eq-eqb, ne_eqb, length-drop, length-take-le, subst}
 use Rattle.std.proofs.Math.Nat.{sub-zero}
 use Rattle.std.proofs.Math.Seq.{take-add, length-sets}
 use Rattle.choice.specs.When.{when, when_yes, when_no, never}
@@ -16,6 +17,7 @@ use Rattle.system.specs.declared.File.{File}
 use Rattle.system.specs.Marks.{ReadAt}
 use Rattle.reads.specs.declared.State.{State}
 use Rattle.reads.specs.State.{unread, UnreadWithin, leftover_of, ReadMore}
+use Rattle.reads.proofs.Moved.{put_copied}
 
 module _ (file : File) (s : State) (input moved_down input' : List ℕ) (r : ℕ) (w : UnreadWithin s (length input))
     (moved : Put input 0 (unread s input) moved_down (s.end - s.from)) (got : ReadAt file (s.end - s.from) moved_down input' r)
@@ -41,10 +43,10 @@ module _ (file : File) (s : State) (input moved_down input' : List ℕ) (r : ℕ
       ∙ take-add left r input'
       ∙ ap (λ (x : List ℕ). x ++ bytes) (got.kept ∙ left_over)
 
-  pub read_so :
+  pub read_so_moved :
       (n x : ℕ) → n ≡ left + r → x ≡ when (eqb r 0) (leftover_of left) 0 →
       ReadMore file s input (record { session = s.session; from = 0; end = n; taken = s.taken; refusal = x; ended = eqb r 0; written = s.written }) input'
-  read_so n x so e =
+  read_so_moved n x so e =
       record {
         bytes = bytes;
         given = got.given;
@@ -93,3 +95,13 @@ module _ (file : File) (s : State) (input moved_down input' : List ℕ) (r : ℕ
         refused_so = when_no false 0 (leftover_of left) 0 refl refl;
         over = λ t. never t;
       }
+
+pub read_so :
+    (file : File) (s : State) (input moved_down input' : List ℕ) (r : ℕ) → UnreadWithin s (length input) →
+    moved_down ≡ copy_within input s.from s.end 0 → length moved_down ≡ length input → ReadAt file (s.end - s.from) moved_down input' r →
+    s.end - s.from < length input → (x : ℕ) → x ≡ when (eqb r 0) (leftover_of (s.end - s.from)) 0 →
+    ReadMore file s input
+    (record { session = s.session; from = 0; end = s.end - s.from + r; taken = s.taken; refusal = x; ended = eqb r 0; written = s.written }) input'
+read_so file s input moved_down input' r w moved as_long got room x e =
+    let put = subst (λ l. Put input 0 (unread s input) l (s.end - s.from)) (sym moved) (put_copied input s.from s.end w.forward w.inside) in
+    read_so_moved file s input moved_down input' r w put got room _ x refl e
